@@ -1,0 +1,9 @@
+pub mod Standings
+pub mod Senses
+pub mod Cdbs
+pub mod OutLists
+pub mod InReplies
+pub mod Frames
+pub mod Bodies
+pub mod Schedules
+pub mod Outputs

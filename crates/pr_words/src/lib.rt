@@ -1,0 +1,12 @@
+//! Names, keys, kinds and codes of the target, and big-endian fields of bytes.
+#![tactic(auto)]
+
+mod code;
+mod fields;
+mod nexus;
+mod reservation;
+
+pub use code::{Code, Sense, Status};
+pub use fields::{get_u16, get_u32, get_u64, put_u16, put_u32, put_u64};
+pub use nexus::{Key, Nexus, Pair, Side, is_same, stands_before};
+pub use reservation::{Kind, Reservation};
