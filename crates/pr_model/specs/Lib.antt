@@ -1,0 +1,11 @@
+pub mod Limits
+pub mod Registrants
+pub mod Acts
+pub mod Keeping
+pub mod Attentions
+pub mod Worlds
+pub mod Entries
+pub mod Commands
+pub mod Histories
+pub mod Lanes
+pub mod Runs

@@ -1,0 +1,55 @@
+-- Whole runs: the records of a schedule act one after another, and lanes take turns (this project's own).
+use Rattle.std.specs.Prelude.{◌≡◌, ℕ, zero, suc, ◌<◌, ◌≤◌, List, [], ◌∷◌, ◌++◌, length, slice_get, slice_set, Some}
+use Rattle.pr_grammar.specs.Schedules.{Record, Arrival, Step_of, lane_of}
+use Rattle.pr_grammar.specs.Outputs.{output_of}
+use Rattle.pr_model.specs.Limits.{HELD}
+use Rattle.pr_model.specs.Entries.{Out, History, entry}
+use Rattle.pr_model.specs.Lanes.{Lane, Turn, Idle, Silent, Asks, turn, arrived}
+
+-- what was done: the entries made, and the bytes written
+pub record Deed : Type 0 where
+  pub entries : History
+  pub output : List ℕ
+
+abbrev pub deed : History → List ℕ → Deed
+deed entries output = record { entries = entries; output = output }
+
+abbrev pub nothing : Deed
+nothing = deed [] []
+
+abbrev pub joined : Deed → Deed → Deed
+joined a b = deed (a.entries ++ b.entries) (a.output ++ b.output)
+
+-- what a turn of a lane makes: entries, bytes to reply, and the lane after it
+abbrev pub Makes : ℕ → Lane → Turn → History → List ℕ → Lane → Type 0
+Makes who l Idle entries reply m = (entries ≡ []) × (reply ≡ []) × (m ≡ l)
+Makes who l (Silent next) entries reply m = (entries ≡ []) × (reply ≡ next.reply) × (m ≡ next.lane)
+Makes who l (Asks n act next) entries reply m =
+    (out : Out) × (entries ≡ entry who n act out ∷ []) × (reply ≡ (next out).reply) × (m ≡ (next out).lane)
+
+-- one turn of a lane, whose reply is written
+abbrev pub TakesTurn : ℕ → Lane → Deed → Lane → Type 0
+TakesTurn who l d m =
+    (entries : History) × (reply : List ℕ) × Makes who l (turn l) entries reply m × (d ≡ deed entries (output_of who reply))
+
+-- so many turns, each while too many bytes wait
+abbrev pub TakesTurns : ℕ → ℕ → Lane → Deed → Lane → Type 0
+TakesTurns zero who l d m = (length l.bytes ≤ HELD) × (d ≡ nothing) × (m ≡ l)
+TakesTurns (suc turns) who l d m =
+    (HELD < length l.bytes)
+    × ((first : Deed) × (mid : Lane) × (rest : Deed) × TakesTurn who l first mid × TakesTurns turns who mid rest m × (d ≡ joined first rest))
+
+-- what a record does on its lane, whose number is the lane's place
+abbrev pub RunsRecord : Record → Lane → Deed → Lane → Type 0
+RunsRecord (Arrival who bytes) l d m = (turns : ℕ) × TakesTurns turns who (arrived l bytes) d m
+RunsRecord (Step_of who) l d m = TakesTurn who l d m
+
+abbrev pub RunsOn : Record → List Lane → Deed → List Lane → Type 0
+RunsOn r lanes d next =
+    (l : Lane) × (m : Lane) × (slice_get lanes (lane_of r) ≡ Some l) × RunsRecord r l d m × (next ≡ slice_set lanes (lane_of r) m)
+
+-- a schedule's records, from these lanes on, make these entries, write these bytes and leave those lanes
+abbrev pub IsRun : List Lane → List Record → Deed → List Lane → Type 0
+IsRun lanes [] d last = (d ≡ nothing) × (last ≡ lanes)
+IsRun lanes (r ∷ rs) d last =
+    (first : Deed) × (mid : List Lane) × (rest : Deed) × RunsOn r lanes first mid × IsRun mid rs rest last × (d ≡ joined first rest)

@@ -1,0 +1,56 @@
+-- The whole logical state of the target.
+use Rattle.std.specs.Prelude.{ℕ, Bool, true, false, List, [], ◌∷◌, map, Option, None, if◌then◌else◌}
+use Rattle.std.specs.List.{list_any}
+use Rattle.pr_words.specs.declared.nexus.Nexus.{Nexus}
+use Rattle.pr_words.specs.declared.nexus.Pair.{Pair}
+use Rattle.pr_words.specs.declared.code.Code.{Code}
+use Rattle.pr_words.specs.declared.reservation.Reservation.{Reservation}
+use Rattle.pr_words.specs.declared.reservation.Reservation.TheVariants.{Free}
+use Rattle.pr_words.specs.Orders.{same_nexus}
+use Rattle.pr_grammar.specs.Standings.{Standing}
+use Rattle.pr_model.specs.Attentions.{powered_on}
+use Rattle.pr_model.specs.Keeping.{Kept, Nothing, Some_kept}
+
+pub data Way : Type 0 where
+  Reads : Way
+  Writes : Way
+
+-- a READ or WRITE under way: its first block, its number of blocks, and how many of them were moved
+pub record Task : Type 0 where
+  pub way : Way
+  pub lba : ℕ
+  pub count : ℕ
+  pub done : ℕ
+  pub aborted : Bool
+
+-- the known nexuses stand in the order in which they became known; an owner is the number of the lane or pass that has a nexus logged in; doubts are what the file may hold instead of what is kept
+pub record World : Type 0 where
+  pub standing : Standing
+  pub known : List Nexus
+  pub attentions : Nexus → List Code
+  pub owner : Nexus → Option ℕ
+  pub task : Nexus → Option Task
+  pub doubts : List Kept
+
+-- a map with another value at one nexus
+abbrev pub set_at : {A : Type 0} → (Nexus → A) → Nexus → A → Nexus → A
+set_at f n v = λ m. if same_nexus m n then v else f m
+
+abbrev pub is_known : List Nexus → Nexus → Bool
+is_known known n = list_any (same_nexus n) known
+
+abbrev pub powered_with : List Pair → Reservation → Bool → World
+powered_with pairs reservation preserve =
+    record {
+      standing = record { pairs = pairs; reservation = reservation; generation = 0; preserve = preserve };
+      known = map (λ (p : Pair). p.nexus) pairs;
+      attentions = λ _. powered_on ∷ [];
+      owner = λ _. None;
+      task = λ _. None;
+      doubts = [];
+    }
+
+-- the world after a power-up: what was kept, generation 0, nobody logged in, and the attention of the power-up in every list
+abbrev pub powered : Kept → World
+powered Nothing = powered_with [] Free false
+powered (Some_kept pairs reservation) = powered_with pairs reservation true
