@@ -1,0 +1,11 @@
+use Rattle.std.proofs.Common.{arith, ◌≡◌, ◌≤◌, ◌-◌, length, take, drop, rules}
+use Rattle.pr_io.proofs.Pieces.{took_next}
+use Rattle.pr_io.proofs.reading.read_up_to.Goals as goal
+
+pub loop-at-preserved : goal.loop-at-preserved
+loop-at-preserved g c =
+    let took = rw c.in_ok-n.was at c.take.ensures.bytes in
+    let count : c.in_ok-n.n ≤ length (take (length c.loop-at.buf - c.loop-at.at) (drop c.loop-at.at c.loop-at.buf)) = rw c.in_ok-n.was at c.take.ensures.count in
+    let auto : length c.take.new.buf ≡ length (take (length c.loop-at.buf - c.loop-at.at) (drop c.loop-at.at c.loop-at.buf)) = search rules in
+    let next = took_next _ _ _ _ _ _ c.loop-at.buf c.take.new.buf c.loop-at.at c.in_ok-n.n c.loop-at.invariant.took took c.loop-at.invariant.within count auto c.loop-at.invariant.later c.take.ensures.cause.later in
+    record { within = next.within; took = next.took; untouched = λ e. absurd (c.if-n-eq0.false (omega (arith, e))); later = next.later }

@@ -1,0 +1,16 @@
+//! The outside of the target and of its clients: what is read, written and kept.
+//!
+//! Each kind of object is a trait whose ghost members tell what the object holds, where that is
+//! known, and how often it has failed. Contracts above speak of these alone. There are forms in
+//! memory, which tell what they hold, and thin adapters over real streams, which don't.
+#![tactic(auto)]
+
+mod outside;
+mod reading;
+mod sure;
+mod writing;
+
+pub use outside::{Disk, Failed, Medium, Sink, Source};
+pub use reading::read_up_to;
+pub use sure::{SureDisk, SureMedium, SureSink, SureSource};
+pub use writing::{put_all, put_three, put_two};

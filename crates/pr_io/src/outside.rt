@@ -1,0 +1,121 @@
+ghost use Rattle.std.specs.Prelude.{◌≡◌, ◌≤◌, ◌<◌, ◌^◌, ℕ, List, Option, length, IfOk};
+ghost use Rattle.pr_io.specs.Causes.{HasCause};
+ghost use Rattle.pr_io.specs.Streams.{HasEnded, MovesInto, Reaches};
+
+/// The object has failed. Its count of faults shows it; nothing more is known of the cause.
+#[derive(Clone, Copy, Debug, PartialEq, Eq)]
+pub struct Failed;
+
+/// Bytes that come in, as from a connection or from standard input.
+pub trait Source {
+    /// The bytes that are left, where they are told.
+    ghost rest: { Self → Option (List ℕ) };
+
+    /// How often the source has failed.
+    ghost faults: { Self → ℕ };
+
+    /// Moves bytes into the front of the buffer, and says how many.
+    ///
+    /// Fewer than the buffer has room for is no end: only no bytes into a buffer that isn't empty
+    /// is. Behind the bytes that were moved, and after a failure, the buffer may hold anything.
+    ///
+    /// # Errors
+    ///
+    /// Where the source has failed. Nothing was moved then, and it may be asked again.
+    fn take(&mut self, buf: &mut [u8]) -> Result<usize, Failed>
+        ensures count { IfOk result (λ n. n ≤ length buf.old) }
+        ensures bytes { MovesInto (rest self.old) (rest self.new) result buf.new }
+        ensures end { IfOk result (λ n. HasEnded (rest self.new) n (length buf.old)) }
+        ensures cause { HasCause (faults self.old) (faults self.new) result };
+}
+
+/// Bytes that go out, as to a connection or to standard output.
+pub trait Sink {
+    /// The bytes that were put so far, where they are told.
+    ghost written: { Self → Option (List ℕ) };
+
+    /// How often the sink has failed.
+    ghost faults: { Self → ℕ };
+
+    /// Puts the first bytes of the piece, at least one where it has any, and says how many.
+    ///
+    /// # Errors
+    ///
+    /// Where the sink has failed or takes nothing. Nothing was put then, and it may be tried again.
+    fn put(&mut self, piece: &[u8]) -> Result<usize, Failed>
+        ensures count { IfOk result (λ n. n ≤ length piece.now) }
+        ensures some { IfOk result (λ n. 0 < length piece.now → 0 < n) }
+        ensures bytes { Reaches (written self.old) (written self.new) result piece.now }
+        ensures cause { HasCause (faults self.old) (faults self.new) result };
+}
+
+/// The logical blocks of the unit (SBC-3), of 512 bytes each.
+pub trait Medium {
+    /// The number of blocks.
+    ghost count: { Self → ℕ };
+
+    /// How often the medium has failed.
+    ghost faults: { Self → ℕ };
+
+    /// The number of blocks, which never changes.
+    fn blocks(&self) -> u64
+        ensures count { result ≡ count self.now }
+        ensures some { 1 ≤ result }
+        ensures most { result ≤ 2 ^ 40 };
+
+    /// How often the medium has failed so far. The count stands still at 2^64 - 1.
+    fn faults(&self) -> u64
+        ensures faults { result ≡ faults self.now };
+}
+
+/// Where registrations outlive a loss of power: 262,144 bytes.
+pub trait Disk {
+    /// How often the disk has failed.
+    ghost faults: { Self → ℕ };
+
+    /// How often the disk has failed so far. The count stands still at 2^64 - 1.
+    fn faults(&self) -> u64
+        ensures faults { result ≡ faults self.now };
+}
+
+impl<S: Source> Source for &mut S {
+    ghost rest = { λ s. S.rest s.now };
+
+    ghost faults = { λ s. S.faults s.now };
+
+    fn take(&mut self, buf: &mut [u8]) -> Result<usize, Failed> {
+        (**self).take(buf)
+    }
+}
+
+impl<K: Sink> Sink for &mut K {
+    ghost written = { λ s. K.written s.now };
+
+    ghost faults = { λ s. K.faults s.now };
+
+    fn put(&mut self, piece: &[u8]) -> Result<usize, Failed> {
+        (**self).put(piece)
+    }
+}
+
+impl<M: Medium> Medium for &mut M {
+    ghost count = { λ m. M.count m.now };
+
+    ghost faults = { λ m. M.faults m.now };
+
+    fn blocks(&self) -> u64 {
+        (**self).blocks()
+    }
+
+    fn faults(&self) -> u64 {
+        (**self).faults()
+    }
+}
+
+impl<D: Disk> Disk for &mut D {
+    ghost faults = { λ d. D.faults d.now };
+
+    fn faults(&self) -> u64 {
+        (**self).faults()
+    }
+}

@@ -1,0 +1,116 @@
+ghost use Rattle.std.specs.Prelude.{◌≡◌, ◌≤◌, ◌<◌, ◌^◌, ◌*◌, ◌/◌, ◌+◌, Some, None, [], length, drop};
+ghost use Rattle.pr_io.specs.Blocks.{AreBlocks, disk_size};
+
+use crate::{Disk, Failed, Medium, Sink, Source};
+
+/// A source over bytes in memory, which never fails.
+#[derive(Drop)]
+pub struct SureSource {
+    bytes: Vec<u8>,
+    at: usize,
+    ghost within: { at ≤ length bytes.items },
+}
+
+impl SureSource {
+    /// A source that gives these bytes and then ends.
+    pub fn new(bytes: Vec<u8>) -> SureSource
+        ensures rest { ⟦<SureSource as Source>⟧.rest result ≡ Some bytes.items }
+        ensures faults { ⟦<SureSource as Source>⟧.faults result ≡ 0 }
+    {
+        SureSource { bytes, at: 0 }
+    }
+}
+
+impl Source for SureSource {
+    ghost rest = { λ s. Some (drop s.at s.bytes.items) };
+
+    ghost faults = { λ _. 0 };
+
+    fn take(&mut self, buf: &mut [u8]) -> Result<usize, Failed> {
+        let left = &self.bytes[self.at..];
+        let n = left.len().min(buf.len());
+        buf[..n].copy_from_slice(&left[..n]);
+        self.at += n;
+        Ok(n)
+    }
+}
+
+/// A sink that takes every byte, keeps none, and never fails.
+#[derive(Clone, Copy, Debug)]
+pub struct SureSink(());
+
+impl SureSink {
+    /// A sink. What is put into it isn't told.
+    pub fn new() -> SureSink
+        ensures faults { ⟦<SureSink as Sink>⟧.faults result ≡ 0 }
+    {
+        SureSink(())
+    }
+}
+
+impl Sink for SureSink {
+    ghost written = { λ _. None };
+
+    ghost faults = { λ _. 0 };
+
+    fn put(&mut self, piece: &[u8]) -> Result<usize, Failed> {
+        Ok(piece.len())
+    }
+}
+
+/// A medium in memory, which never fails.
+#[derive(Drop)]
+pub struct SureMedium {
+    bytes: Vec<u8>,
+    ghost blocks: { AreBlocks (length bytes.items) },
+}
+
+impl SureMedium {
+    /// A medium of these blocks, one after another.
+    pub fn new(bytes: Vec<u8>) -> SureMedium
+        requires { AreBlocks (length bytes.items) }
+        ensures count { ⟦<SureMedium as Medium>⟧.count result ≡ length bytes.items / 512 }
+        ensures faults { ⟦<SureMedium as Medium>⟧.faults result ≡ 0 }
+    {
+        SureMedium { bytes }
+    }
+}
+
+impl Medium for SureMedium {
+    ghost count = { λ s. length s.bytes.items / 512 };
+
+    ghost faults = { λ _. 0 };
+
+    fn blocks(&self) -> u64 {
+        (self.bytes.len() / 512) as u64
+    }
+
+    fn faults(&self) -> u64 {
+        0
+    }
+}
+
+/// A disk in memory, which never fails.
+#[derive(Drop)]
+pub struct SureDisk {
+    image: Vec<u8>,
+    ghost size: { length image.items ≡ disk_size },
+}
+
+impl SureDisk {
+    /// A disk that holds this image.
+    pub fn new(image: Vec<u8>) -> SureDisk
+        requires { length image.items ≡ disk_size }
+        ensures faults { ⟦<SureDisk as Disk>⟧.faults result ≡ 0 }
+    {
+        SureDisk { image }
+    }
+}
+
+impl Disk for SureDisk {
+    ghost faults = { λ _. 0 };
+
+    fn faults(&self) -> u64 {
+        0
+    }
+}
