@@ -1,7 +1,7 @@
 -- Bytes that move in several pieces.
 use Rattle.std.proofs.Common.{◌≡◌, ◌≤◌, ℕ, ◌+◌, ◌-◌, List, ◌++◌, [], length, take, drop, Option, Some, None, refl, sym, ap, ◌∙◌, append_assoc, arith, subst}
 use Rattle.std.proofs.Math.Seq.{take-add}
-use Rattle.std.proofs.lemmas.List.{take_at, drop_at, take_all, append-nil, length-take, length-drop, length-append, take-append-le}
+use Rattle.std.proofs.lemmas.List.{take_at, drop_at, take_all, append-nil, take-append-drop, drop-drop, length-take, length-drop, length-append, take-append-le}
 use borrow.Rule.Slice.PartMut.{put_mid, post_of}
 use Rattle.pr_io.specs.Streams.{Put, Took}
 
@@ -26,6 +26,14 @@ took_more None (Some b) c xs ys p q = absurd cc
 took_more (Some a) None c xs ys p q = absurd p
 took_more (Some a) (Some b) None xs ys p q = absurd q
 took_more (Some a) (Some b) (Some c) xs ys p q = p ∙ ap (λ (w : List ℕ). xs ++ w) q ∙ sym (append_assoc xs ys c)
+
+-- a front of what is left was copied into a buffer, and the rest stays
+pub took_copied : (b : List ℕ) (at n len : ℕ) (x y : List ℕ) → at ≤ length b → n ≤ len - at → len ≡ length b → x ≡ take n (take (len - at) (drop at b)) → drop at b ≡ take n (x ++ y) ++ drop (at + n) b
+took_copied b at n len x y within le same e =
+    let whole : take (len - at) (drop at b) ≡ drop at b = take_all (len - at) (drop at b) (omega (arith, length-drop at b)) in
+    let front : x ≡ take n (drop at b) = e ∙ ap (λ (w : List ℕ). take n w) whole in
+    let size : length x ≡ n = omega (arith, ap length front, length-take n (drop at b), length-drop at b) in
+    rw (take_at x y n size, front) (sym (ap (λ (w : List ℕ). take n (drop at b) ++ w) (sym (drop-drop n at b)) ∙ take-append-drop n (drop at b)))
 
 -- the next n bytes after a front
 pub put_front : (a b c : Option (List ℕ)) (xs : List ℕ) (at n : ℕ) → Put a b (take at xs) → Put b c (take n (take (length xs - at) (drop at xs))) → at ≤ length xs → Put a c (take (at + n) xs)

@@ -5,12 +5,18 @@
 //! memory, which tell what they hold, and thin adapters over real streams, which don't.
 #![tactic(auto)]
 
+mod calls;
+mod faults;
+mod memory;
 mod outside;
 mod reading;
+mod standard;
 mod sure;
 mod writing;
 
+pub use memory::{MemSink, MemSource};
 pub use outside::{Disk, Failed, Medium, Sink, Source};
 pub use reading::read_up_to;
+pub use standard::{StdinSource, StdoutSink};
 pub use sure::{SureDisk, SureMedium, SureSink, SureSource};
 pub use writing::{put_all, put_three, put_two};

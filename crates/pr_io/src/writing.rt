@@ -1,10 +1,10 @@
-ghost use Rattle.std.specs.Prelude.{◌≡◌, ◌≤◌, ◌++◌, length, OnOk, OnErr};
+ghost use Rattle.std.specs.Prelude.{◌≡◌, ◌≤◌, ◌++◌, length, OnOk, OnErr, IsOk};
 ghost use Rattle.pr_io.specs.Streams.{Put, PutSome};
 ghost use Rattle.pr_io.specs.Causes.{HasCause};
 
 use crate::{Failed, Sink};
 
-/// Puts all of the piece, in as few calls as the sink allows.
+/// Puts all of the piece, in as few calls as the sink allows. An empty piece makes none.
 ///
 /// # Errors
 ///
@@ -13,6 +13,7 @@ pub fn put_all<K: Sink>(sink: &mut K, piece: &[u8]) -> Result<(), Failed>
     ensures all { OnOk result (Put (K.written sink.old) (K.written sink.new) piece.now) }
     ensures some { OnErr result (PutSome (K.written sink.old) (K.written sink.new) piece.now) }
     ensures cause { HasCause (K.faults sink.old) (K.faults sink.new) result }
+    ensures empty { length piece.now ≡ 0 → IsOk result × (sink.new ≡ sink.old) }
 {
     let mut at = 0;
     while at < piece.len() {

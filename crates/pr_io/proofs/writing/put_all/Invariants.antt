@@ -1,4 +1,4 @@
-use Rattle.std.proofs.Common.{◌≤◌, ◌-◌, length, take}
+use Rattle.std.proofs.Common.{◌≡◌, ◌≤◌, ◌-◌, length, take}
 use Rattle.pr_io.specs.Streams.{Put}
 use Rattle.pr_io.proofs.writing.put_all.Given as goal
 
@@ -7,6 +7,7 @@ invariant-loop-at g l =
     record {
       within : l.at ≤ length l.piece;
       puts : Put (g.K.Sink.written l.initial.sink) (g.K.Sink.written l.sink) (take l.at l.piece);
+      untouched : l.at ≡ 0 → l.sink ≡ l.initial.sink;
       later : g.K.Sink.faults l.initial.sink ≤ g.K.Sink.faults l.sink;
     }
 

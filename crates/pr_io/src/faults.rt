@@ -1,0 +1,27 @@
+ghost use Rattle.std.specs.Prelude.{◌≡◌, ◌≤◌};
+ghost use Rattle.pr_io.specs.Causes.{Rose};
+
+use crate::Failed;
+
+/// A count of faults, which stands still at 2^64 - 1.
+#[derive(Debug, Drop)]
+pub(crate) struct Faults {
+    count: u64,
+}
+
+impl Faults {
+    pub(crate) fn new() -> Faults
+        ensures { result.count ≡ 0 }
+    {
+        Faults { count: 0 }
+    }
+
+    /// Counts one fault more, and hands out the answer that it excuses.
+    pub(crate) fn raise(&mut self) -> Failed
+        ensures later { self.old.count ≤ self.new.count }
+        ensures rose { Rose self.old.count self.new.count }
+    {
+        self.count = self.count.saturating_add(1);
+        Failed
+    }
+}

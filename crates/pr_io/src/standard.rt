@@ -1,0 +1,149 @@
+ghost use Rattle.std.specs.Prelude.{◌≡◌, ◌≤◌, ◌<◌, ◌+◌, None, length, IfOk, vec_len};
+ghost use Rattle.pr_io.specs.Causes.{HasCause};
+
+use crate::faults::Faults;
+use crate::{Failed, Sink, Source};
+use std::alloc::{AllocError, Global};
+use std::io::{ErrorKind, Read, Write};
+
+/// How many bytes are read ahead.
+const AHEAD: usize = 65536;
+
+/// How often a call is made again that a signal interrupted.
+const TRIES: u32 = 1000;
+
+/// A source over a reader, as standard input. It tells nothing of what it holds.
+///
+/// It reads ahead in pieces of 64 KiB, so that small takes cost no system call.
+#[derive(Drop)]
+pub struct StdinSource<R: Read + Drop> {
+    reader: R,
+    ahead: Vec<u8>,
+    from: usize,
+    to: usize,
+    faults: Faults,
+    ghost order: { from ≤ to },
+    ghost within: { to ≤ length ahead.items },
+}
+
+impl<R: Read + Drop> StdinSource<R> {
+    /// A source over this reader. Later calls take no memory.
+    ///
+    /// # Errors
+    ///
+    /// Where the memory for what is read ahead is refused.
+    pub fn new(alloc: Global, reader: R) -> Result<StdinSource<R>, AllocError>
+        ensures { IfOk result (λ s. s.faults.count ≡ 0) }
+    {
+        Ok(StdinSource {
+            reader,
+            ahead: vec![in alloc; 0u8; AHEAD]?,
+            from: 0,
+            to: 0,
+            faults: Faults::new(),
+        })
+    }
+
+    /// Reads ahead, where nothing is held.
+    fn read_ahead(&mut self) -> Result<(), Failed>
+        ensures cause { HasCause self.old.faults.count self.new.faults.count result }
+    {
+        self.from = 0;
+        self.to = 0;
+        self.to = read_some(&mut self.reader, &mut self.ahead, &mut self.faults)?;
+        Ok(())
+    }
+}
+
+impl<R: Read + Drop> Source for StdinSource<R> {
+    ghost rest = { λ _. None };
+
+    ghost faults = { λ s. s.faults.count };
+
+    fn take(&mut self, buf: &mut [u8]) -> Result<usize, Failed> {
+        if self.from == self.to {
+            if buf.len() >= AHEAD {
+                return read_some(&mut self.reader, buf, &mut self.faults);
+            }
+            if !buf.is_empty() {
+                self.read_ahead()?;
+            }
+        }
+        let held = &self.ahead[self.from..self.to];
+        let n = held.len().min(buf.len());
+        buf[..n].copy_from_slice(&held[..n]);
+        self.from += n;
+        Ok(n)
+    }
+}
+
+/// A sink over a writer, as standard output. It tells nothing of what was put.
+///
+/// Each piece goes out at once, in one call of the writer.
+#[derive(Drop)]
+pub struct StdoutSink<W: Write + Drop> {
+    writer: W,
+    faults: Faults,
+}
+
+impl<W: Write + Drop> StdoutSink<W> {
+    /// A sink over this writer.
+    pub fn new(writer: W) -> StdoutSink<W>
+        ensures { result.faults.count ≡ 0 }
+    {
+        StdoutSink {
+            writer,
+            faults: Faults::new(),
+        }
+    }
+}
+
+impl<W: Write + Drop> Sink for StdoutSink<W> {
+    ghost written = { λ _. None };
+
+    ghost faults = { λ s. s.faults.count };
+
+    fn put(&mut self, piece: &[u8]) -> Result<usize, Failed> {
+        let n = write_some(&mut self.writer, piece, &mut self.faults)?;
+        if n == 0 && !piece.is_empty() {
+            return Err(self.faults.raise());
+        }
+        Ok(n)
+    }
+}
+
+/// One read, made again where a signal interrupts it.
+fn read_some<R: Read>(reader: &mut R, buf: &mut [u8], faults: &mut Faults) -> Result<usize, Failed>
+    ensures count { IfOk result (λ n. n ≤ length buf.old) }
+    ensures cause { HasCause faults.old.count faults.new.count result }
+{
+    for _ in 0..TRIES {
+        match reader.read(buf) {
+            Ok(n) => return Ok(n),
+            Err(error) => {
+                if error.kind() != ErrorKind::Interrupted {
+                    break;
+                }
+            }
+        }
+    }
+    Err(faults.raise())
+}
+
+/// One write, made again where a signal interrupts it.
+fn write_some<W: Write>(writer: &mut W, piece: &[u8], faults: &mut Faults) -> Result<usize, Failed>
+    ensures count { IfOk result (λ n. n ≤ length piece.now) }
+    ensures cause { HasCause faults.old.count faults.new.count result }
+{
+    for _ in 0..TRIES {
+        match writer.write(piece) {
+            Ok(n) => return Ok(n),
+            Err(error) => {
+                if error.kind() != ErrorKind::Interrupted {
+                    break;
+                }
+            }
+        }
+    }
+    Err(faults.raise())
+}
