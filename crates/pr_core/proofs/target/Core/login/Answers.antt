@@ -1,0 +1,6 @@
+use Rattle.std.proofs.Common.{refl}
+use Rattle.pr_core.proofs.Entering.{extends_one}
+use Rattle.pr_core.proofs.target.Core.login.Goals as goal
+
+pub returns-clause-entry : goal.returns-clause-entry
+returns-clause-entry g c = extends_one _ _ _ refl (c.login.ensures.moves c.args.self.now.blocks)

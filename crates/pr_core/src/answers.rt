@@ -1,0 +1,41 @@
+ghost use Rattle.std.specs.Prelude.{◌≡◌, ℕ, List};
+ghost use Rattle.pr_model.specs.Commands.{checking, good, code};
+ghost use Rattle.pr_core.specs.Outs.{out_of, IsProper};
+
+use pr_words::{Code, Sense, Status};
+
+/// How a command was answered.
+#[derive(Clone, Copy, Debug, PartialEq, Eq)]
+pub enum CommandOut {
+    /// The command has ended. Its data-in is the first `len` bytes of the buffer that it was given.
+    Ended {
+        status: Status,
+        sense: Option<Sense>,
+        len: usize,
+    },
+}
+
+impl CommandOut {
+    /// GOOD, with so many bytes of data-in.
+    pub(crate) fn good(len: usize) -> CommandOut
+        ensures { result ≡ CommandOut.Ended Status.Good None len }
+    {
+        CommandOut::Ended {
+            status: Status::Good,
+            sense: None,
+            len,
+        }
+    }
+
+    /// CHECK CONDITION, with a code.
+    pub(crate) fn checking(code: Code) -> CommandOut
+        ensures out { (buf : List ℕ) → out_of result buf ≡ checking code }
+        ensures proper { IsProper result }
+    {
+        CommandOut::Ended {
+            status: Status::CheckCondition,
+            sense: Some(Sense { code, info: None }),
+            len: 0,
+        }
+    }
+}
