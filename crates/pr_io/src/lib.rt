@@ -20,3 +20,6 @@ pub use reading::read_up_to;
 pub use standard::{StdinSource, StdoutSink};
 pub use sure::{SureDisk, SureMedium, SureSink, SureSource};
 pub use writing::{put_all, put_three, put_two};
+
+#[cfg(test)]
+mod tests;

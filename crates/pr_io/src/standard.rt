@@ -1,5 +1,6 @@
-ghost use Rattle.std.specs.Prelude.{◌≡◌, ◌≤◌, ◌<◌, ◌+◌, None, length, IfOk, vec_len};
+ghost use Rattle.std.specs.Prelude.{◌≡◌, ◌≤◌, ◌<◌, None, length, IfOk, IsOk};
 ghost use Rattle.pr_io.specs.Causes.{HasCause};
+ghost use Rattle.pr_io.specs.Streams.{HasEnded, MovesInto, Reaches};
 
 use crate::faults::Faults;
 use crate::{Failed, Sink, Source};
@@ -47,6 +48,7 @@ impl<R: Read + Drop> StdinSource<R> {
     /// Reads ahead, where nothing is held.
     fn read_ahead(&mut self) -> Result<(), Failed>
         ensures cause { HasCause self.old.faults.count self.new.faults.count result }
+        ensures calm { IsOk result → self.new.faults.count ≡ self.old.faults.count }
     {
         self.from = 0;
         self.to = 0;
@@ -60,7 +62,13 @@ impl<R: Read + Drop> Source for StdinSource<R> {
 
     ghost faults = { λ s. s.faults.count };
 
-    fn take(&mut self, buf: &mut [u8]) -> Result<usize, Failed> {
+    fn take(&mut self, buf: &mut [u8]) -> Result<usize, Failed>
+        ensures count { IfOk result (λ n. n ≤ length buf.old) }
+        ensures bytes { MovesInto None None result buf.new }
+        ensures end { IfOk result (λ n. HasEnded None n (length buf.old)) }
+        ensures cause { HasCause self.old.faults.count self.new.faults.count result }
+        ensures calm { IsOk result → self.new.faults.count ≡ self.old.faults.count }
+    {
         if self.from == self.to {
             if buf.len() >= AHEAD {
                 return read_some(&mut self.reader, buf, &mut self.faults);
@@ -103,7 +111,13 @@ impl<W: Write + Drop> Sink for StdoutSink<W> {
 
     ghost faults = { λ s. s.faults.count };
 
-    fn put(&mut self, piece: &[u8]) -> Result<usize, Failed> {
+    fn put(&mut self, piece: &[u8]) -> Result<usize, Failed>
+        ensures count { IfOk result (λ n. n ≤ length piece.now) }
+        ensures some { IfOk result (λ n. 0 < length piece.now → 0 < n) }
+        ensures bytes { Reaches None None result piece.now }
+        ensures cause { HasCause self.old.faults.count self.new.faults.count result }
+        ensures calm { IsOk result → self.new.faults.count ≡ self.old.faults.count }
+    {
         let n = write_some(&mut self.writer, piece, &mut self.faults)?;
         if n == 0 && !piece.is_empty() {
             return Err(self.faults.raise());
@@ -116,6 +130,7 @@ impl<W: Write + Drop> Sink for StdoutSink<W> {
 fn read_some<R: Read>(reader: &mut R, buf: &mut [u8], faults: &mut Faults) -> Result<usize, Failed>
     ensures count { IfOk result (λ n. n ≤ length buf.old) }
     ensures cause { HasCause faults.old.count faults.new.count result }
+    ensures calm { IsOk result → faults.new.count ≡ faults.old.count }
 {
     for _ in 0..TRIES {
         match reader.read(buf) {
@@ -134,6 +149,7 @@ fn read_some<R: Read>(reader: &mut R, buf: &mut [u8], faults: &mut Faults) -> Re
 fn write_some<W: Write>(writer: &mut W, piece: &[u8], faults: &mut Faults) -> Result<usize, Failed>
     ensures count { IfOk result (λ n. n ≤ length piece.now) }
     ensures cause { HasCause faults.old.count faults.new.count result }
+    ensures calm { IsOk result → faults.new.count ≡ faults.old.count }
 {
     for _ in 0..TRIES {
         match writer.write(piece) {
