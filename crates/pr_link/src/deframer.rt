@@ -1,0 +1,193 @@
+ghost use Rattle.std.specs.Prelude.{◌≡◌, ℕ, ◌+◌, ◌-◌, ◌*◌, ◌%◌, ◌^◌, ◌≤◌, ◌<◌, ◌++◌, List, [], take, drop, length, None, IfOk};
+ghost use Rattle.circular_buffer.specs.Buffer.{buffer};
+ghost use Rattle.pr_words.specs.Fields.{number32_at};
+ghost use Rattle.pr_grammar.specs.Frames.{front, checked, is_body};
+ghost use Rattle.pr_link.specs.Streams.{Stream, Feeds, Gives, Checks};
+
+use crate::bodies::{is_received, is_well_formed};
+use crate::{Frame, Got};
+use circular_buffer::HeapCircularBuffer;
+use pr_words::{Side, get_u16, get_u32};
+use std::alloc::{AllocError, Global};
+
+/// The longest frame, in bytes.
+const HELD: usize = 524_320;
+
+/// The greatest length field.
+const MOST: u32 = 524_316;
+
+/// A stream's bytes until they make a frame.
+///
+/// It holds up to 524,320 bytes, as many as the longest frame has, and takes all its memory when it is made. Once a
+/// frame broke a rule no later byte of the stream is looked at.
+#[derive(Drop)]
+pub struct Deframer {
+    side: Side,
+    held: HeapCircularBuffer<u8>,
+    place: u64,
+    broken: Option<u8>,
+    ghost room: { held.capacity ≡ 524320 },
+}
+
+impl Deframer {
+    ghost use Rattle.pr_link.specs.Deframer.{stream_of, held_of, place_of};
+
+    /// For the bytes that one side receives, from the first of a stream on.
+    pub fn new(alloc: Global, side: Side) -> Result<Deframer, AllocError>
+        ensures { IfOk result (λ d. stream_of d ≡ record { side = side; place = 0; held = []; broken = None }) }
+    {
+        Ok(Deframer {
+            side,
+            held: HeapCircularBuffer::with_capacity(alloc, HELD)?,
+            place: 0,
+            broken: None,
+        })
+    }
+
+    /// The place of the first held byte: how many bytes of the stream came before it, modulo 2^64.
+    pub fn place(&self) -> u64
+        ensures { result ≡ place_of self.now }
+    {
+        self.place
+    }
+
+    /// How many bytes are held.
+    pub fn held(&self) -> usize
+        ensures held { result ≡ length (held_of self.now) }
+        ensures bound { result ≤ 524320 }
+    {
+        self.held.len()
+    }
+
+    /// Takes the first bytes, as many as there is room for, and answers how many. After a broken rule it takes and drops
+    /// all.
+    pub fn feed(&mut self, bytes: &[u8]) -> usize
+        ensures { Feeds (stream_of self.old) bytes.now result (stream_of self.new) }
+    {
+        if self.broken.is_some() {
+            return bytes.len();
+        }
+        self.held.fill_from_slice(bytes)
+    }
+
+    /// The frame at the front with its body in `buf`, or how many bytes lack, or the rule that is broken there.
+    ///
+    /// `buf` has room for the longest frame; what it holds behind the body, or without a frame, is free. After a broken
+    /// rule nothing is held, and each call gives the same answer.
+    #[tactic(auto, unfolding(pr_grammar::specs::Frames::front))]
+    pub fn next(&mut self, buf: &mut [u8]) -> Got
+        requires { 524320 ≤ length buf.old }
+        ensures { Gives (stream_of self.old) result (stream_of self.new) buf.new }
+    {
+        if let Some(reason) = self.broken {
+            return Got::Bad {
+                place: self.place,
+                reason,
+            };
+        }
+        let held = self.held.len();
+        if held < 4 {
+            return Got::Need(4 - held);
+        }
+        let len = front_length(&self.held);
+        if len < 8 || len > MOST {
+            return self.break_at(1);
+        }
+        let len = len as usize;
+        if held < 4 + len {
+            return Got::Need(4 + len - held);
+        }
+        match take_frame(self.side, &mut self.held, len, buf) {
+            Ok(frame) => {
+                self.place = self.place.wrapping_add(12 + frame.body as u64);
+                Got::Frame(frame)
+            }
+            Err(reason) => self.break_at(reason),
+        }
+    }
+
+    /// Begins with the first byte of another stream: nothing is held, and no rule is broken.
+    pub fn restart(&mut self)
+        ensures { stream_of self.new ≡ record (stream_of self.old) { place = 0; held = []; broken = None } }
+    {
+        self.held.clear();
+        self.place = 0;
+        self.broken = None;
+    }
+
+    fn break_at(&mut self, reason: u8) -> Got
+        ensures answer { result ≡ Got.Bad (place_of self.old) reason }
+        ensures stream { stream_of self.new ≡ record (stream_of self.old) { held = []; broken = Some reason } }
+    {
+        self.held.clear();
+        self.broken = Some(reason);
+        Got::Bad {
+            place: self.place,
+            reason,
+        }
+    }
+}
+
+fn front_length(held: &HeapCircularBuffer<u8>) -> u32
+    requires { 4 ≤ length held.now.items }
+    ensures { result ≡ number32_at held.now.items 0 }
+{
+    match (held.get(0), held.get(1), held.get(2), held.get(3)) {
+        (Some(a), Some(b), Some(c), Some(d)) => u32::from_be_bytes([*a, *b, *c, *d]),
+        _ => unreachable!(),
+    }
+}
+
+fn read_front(held: &mut HeapCircularBuffer<u8>, dst: &mut [u8])
+    requires { length dst.old ≤ length held.old.items }
+    ensures bytes { dst.new ≡ take (length dst.old) held.old.items }
+    ensures rest { held.new ≡ buffer (drop (length dst.old) held.old.items) held.old.capacity }
+{
+    held.read_into(dst);
+}
+
+fn take_frame(
+    side: Side,
+    held: &mut HeapCircularBuffer<u8>,
+    len: usize,
+    buf: &mut [u8],
+) -> Result<Frame, u8>
+    requires size { 8 ≤ len }
+    requires bound { len ≤ 524316 }
+    requires whole { 4 + len ≤ length held.old.items }
+    requires room { len ≤ length buf.old }
+    ensures gives { Checks side (checked side (take len (drop 4 held.old.items)) (drop (4 + len) held.old.items)) result held.new.items buf.new }
+    ensures capacity { held.new.capacity ≡ held.old.capacity }
+{
+    let mut size = [0u8; 4];
+    read_front(held, &mut size);
+    let mut head = [0u8; 8];
+    read_front(held, &mut head);
+    let body = len - 8;
+    read_front(held, &mut buf[..body]);
+    checked_frame(side, &head, body, buf)
+}
+
+#[tactic(auto, using(crate::proofs::Heads::heads))]
+fn checked_frame(side: Side, head: &[u8; 8], body: usize, buf: &[u8]) -> Result<Frame, u8>
+    requires within { body ≤ length buf.now }
+    requires bound { body ≤ 524308 }
+    ensures { (rest : List ℕ) → Checks side (checked side (head.now ++ take body buf.now) rest) result rest buf.now }
+{
+    let kind = head[0];
+    if !is_received(side, kind) {
+        return Err(2);
+    }
+    if head[1] != 0 {
+        return Err(3);
+    }
+    if !is_well_formed(side, kind, &buf[..body]) {
+        return Err(4);
+    }
+    Ok(Frame {
+        kind,
+        lun: get_u16(head, 2),
+        tag: get_u32(head, 4),
+        body,
+    })
+}

@@ -1,0 +1,12 @@
+//! Frames of the link: out of a stream of bytes in whatever pieces it comes, and into their bytes.
+#![tactic(auto)]
+
+mod bodies;
+mod deframer;
+mod frame;
+mod writing;
+
+pub use deframer::Deframer;
+pub use frame::{Frame, Got};
+pub use pr_words::Side;
+pub use writing::{write_command, write_frame, write_login};
