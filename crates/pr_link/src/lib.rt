@@ -4,9 +4,14 @@
 mod bodies;
 mod deframer;
 mod frame;
+mod laws;
 mod writing;
+
+#[cfg(test)]
+mod tests;
 
 pub use deframer::Deframer;
 pub use frame::{Frame, Got};
+pub use laws::{read_is_written, written_is_read};
 pub use pr_words::Side;
 pub use writing::{write_command, write_frame, write_login};
