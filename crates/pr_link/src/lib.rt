@@ -5,10 +5,9 @@ mod bodies;
 mod deframer;
 mod frame;
 mod laws;
-mod writing;
-
 #[cfg(test)]
 mod tests;
+mod writing;
 
 pub use deframer::Deframer;
 pub use frame::{Frame, Got};
