@@ -32,24 +32,36 @@ abbrev pub TakesTurn : ℕ → Lane → Deed → Lane → Type 0
 TakesTurn who l d m =
     (entries : History) × (reply : List ℕ) × Makes who l (turn l) entries reply m × (d ≡ deed entries (output_of who reply))
 
--- so many turns, each while too many bytes wait
+-- so many turns, each while more bytes wait than are held
 abbrev pub TakesTurns : ℕ → ℕ → Lane → Deed → Lane → Type 0
-TakesTurns zero who l d m = (length l.bytes ≤ HELD) × (d ≡ nothing) × (m ≡ l)
+TakesTurns zero who l d m = (d ≡ nothing) × (m ≡ l)
 TakesTurns (suc turns) who l d m =
     (HELD < length l.bytes)
     × ((first : Deed) × (mid : Lane) × (rest : Deed) × TakesTurn who l first mid × TakesTurns turns who mid rest m × (d ≡ joined first rest))
 
--- what a record does on its lane, whose number is the lane's place
+-- what a record does on its lane, or has done of it after some of its turns
+abbrev pub BeginsRecord : Record → Lane → Deed → Lane → Type 0
+BeginsRecord (Arrival who bytes) l d m = (turns : ℕ) × TakesTurns turns who (arrived l bytes) d m
+BeginsRecord (Step_of who) l d m = TakesTurn who l d m
+
+-- all that a record does: bytes that arrive are held at its end
 abbrev pub RunsRecord : Record → Lane → Deed → Lane → Type 0
-RunsRecord (Arrival who bytes) l d m = (turns : ℕ) × TakesTurns turns who (arrived l bytes) d m
+RunsRecord (Arrival who bytes) l d m = ((turns : ℕ) × TakesTurns turns who (arrived l bytes) d m) × (length m.bytes ≤ HELD)
 RunsRecord (Step_of who) l d m = TakesTurn who l d m
 
-abbrev pub RunsOn : Record → List Lane → Deed → List Lane → Type 0
-RunsOn r lanes d next =
-    (l : Lane) × (m : Lane) × (slice_get lanes (lane_of r) ≡ Some l) × RunsRecord r l d m × (next ≡ slice_set lanes (lane_of r) m)
+-- the record acts on the lane of its number, whose place among the lanes that is
+abbrev pub ActsOn : (Record → Lane → Deed → Lane → Type 0) → Record → List Lane → Deed → List Lane → Type 0
+ActsOn Acts r lanes d next =
+    (l : Lane) × (m : Lane) × (slice_get lanes (lane_of r) ≡ Some l) × Acts r l d m × (next ≡ slice_set lanes (lane_of r) m)
 
 -- a schedule's records, from these lanes on, make these entries, write these bytes and leave those lanes
 abbrev pub IsRun : List Lane → List Record → Deed → List Lane → Type 0
 IsRun lanes [] d last = (d ≡ nothing) × (last ≡ lanes)
 IsRun lanes (r ∷ rs) d last =
-    (first : Deed) × (mid : List Lane) × (rest : Deed) × RunsOn r lanes first mid × IsRun mid rs rest last × (d ≡ joined first rest)
+    (first : Deed) × (mid : List Lane) × (rest : Deed) × ActsOn RunsRecord r lanes first mid × IsRun mid rs rest last × (d ≡ joined first rest)
+
+-- the same, but the last record may have taken only some of its turns
+abbrev pub IsBegunRun : List Lane → List Record → Deed → List Lane → Type 0
+IsBegunRun lanes records d last =
+    (whole : List Record) × (r : Record) × (first : Deed) × (mid : List Lane) × (rest : Deed) × (records ≡ whole ++ r ∷ [])
+    × IsRun lanes whole first mid × ActsOn BeginsRecord r mid rest last × (d ≡ joined first rest)
