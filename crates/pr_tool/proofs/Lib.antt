@@ -1,0 +1,4 @@
+pub mod Turns
+pub mod Replying
+pub mod Parts
+pub mod Makings

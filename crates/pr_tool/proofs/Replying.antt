@@ -1,0 +1,42 @@
+-- A reply that stands in the work buffer.
+use Rattle.std.proofs.Common.{◌≡◌, ℕ, ◌+◌, ◌≤◌, List, [], ◌++◌, length, take, drop, Some, None, refl, sym, ap, ◌∙◌, arith, append_assoc}
+use Rattle.std.proofs.lemmas.List.{take_at, length-append, length-take, take-append-drop}
+use Rattle.pr_words.specs.declared.nexus.Nexus.{Nexus}
+use Rattle.pr_words.specs.declared.code.Sense.{Sense}
+use Rattle.pr_words.specs.declared.code.Status.{Status}
+use Rattle.pr_words.specs.declared.code.Status.TheVariants as status
+use Rattle.pr_grammar.specs.Bodies.{command_reply}
+use Rattle.pr_grammar.specs.Frames.{Frame, frame, spelled}
+use Rattle.pr_model.specs.Lanes.{In, lane, after_command}
+use Rattle.pr_core.specs.declared.answers.CommandOut.{CommandOut}
+use Rattle.pr_core.specs.declared.answers.CommandOut.TheVariants as outs
+use Rattle.pr_core.specs.Outs.{out_of, IsProperly}
+use Rattle.pr_tool.specs.Rooms.{roomed, answer_body}
+
+pub reply_in : (head tail reply : List ℕ) (n len : ℕ) → head ++ take len tail ≡ roomed reply → len ≤ length tail → 4 + n ≡ length head + len → take n (drop 4 (head ++ tail)) ≡ reply
+reply_in head tail reply n len is within size =
+    let more : List ℕ = drop len tail in
+    let parts : head ++ tail ≡ roomed reply ++ more =
+    ap (λ (w : List ℕ). head ++ w) (sym (take-append-drop len tail)) ∙ sym (append_assoc head (take len tail) more) ∙ ap (λ (w : List ℕ). w ++ more) is in
+    let count : n ≡ length reply = omega (arith, size, ap length is, length-append head (take len tail), length-take len tail, within) in
+    ap (λ (w : List ℕ). take n (drop 4 w)) parts ∙ take_at reply more n (sym count)
+
+-- a command's answer as the lane has it
+pub answer_reply : (n : Nexus) (f : Frame) (rest : List ℕ) (place : ℕ) (out : CommandOut) (buf : List ℕ) → (after_command n f rest place (out_of out buf)).reply ≡ spelled (frame 0x82 f.lun f.tag (answer_body out buf))
+answer_reply n f rest place (outs.Ended status sense len) buf = refl
+
+pub answer_lane : (n : Nexus) (f : Frame) (rest : List ℕ) (place : ℕ) (out : CommandOut) (buf : List ℕ) → (after_command n f rest place (out_of out buf)).lane ≡ lane rest (In n) place
+answer_lane n f rest place (outs.Ended status sense len) buf = refl
+
+-- sense comes with CHECK CONDITION and without data-in
+pub with_sense : (s : Status) (sense : Sense) (len : ℕ) (buf : List ℕ) → IsProperly s (Some sense) len → command_reply s (Some sense) (take len buf) ≡ command_reply status.CheckCondition (Some sense) []
+with_sense status.Good sense len buf p = absurd p
+with_sense status.CheckCondition sense len buf p = ap (λ (n : ℕ). command_reply status.CheckCondition (Some sense) (take n buf)) p
+with_sense status.ReservationConflict sense len buf p = absurd p
+with_sense status.TaskAborted sense len buf p = absurd p
+
+pub within_room : (s : Status) (len : ℕ) → IsProperly s None len → len ≤ 524288
+within_room status.Good len p = p
+within_room status.CheckCondition len p = absurd p
+within_room status.ReservationConflict len p = omega (arith, p)
+within_room status.TaskAborted len p = omega (arith, p)

@@ -1,0 +1,46 @@
+-- A session and a core that go on together.
+use Rattle.std.specs.Prelude.{◌≡◌, ℕ, ◌+◌, ◌-◌, ◌%◌, ◌^◌, List, [], take, length, min, Some, None}
+use Rattle.pr_words.specs.declared.nexus.Side.TheVariants.{Target}
+use Rattle.pr_grammar.specs.Frames.{Front, Short, Broken, Whole, frame_size}
+use Rattle.pr_model.specs.Limits.{HELD}
+use Rattle.pr_model.specs.Entries.{History}
+use Rattle.pr_model.specs.Lanes.{Lane, Phase, Fresh, In, Dead, Turn}
+use Rattle.pr_model.specs.Runs.{Makes}
+use Rattle.pr_core.specs.declared.target.Core.{Core}
+use Rattle.pr_core.specs.View.{owner_of, known_to, Extends}
+use Rattle.pr_link.specs.Streams.{Stream, IsProper, frame_of}
+use Rattle.pr_link.specs.declared.frame.Got.{Got}
+use Rattle.pr_link.specs.declared.frame.Got.TheVariants as got
+
+-- the core has the session's nexus logged in
+abbrev pub Agrees : {M D : Type 0} → Phase → ℕ → Core M D → Type 0
+Agrees Fresh who c = known_to c ≡ []
+Agrees (In n) who c = owner_of c n ≡ Some who
+Agrees Dead who c = Unit {0}
+
+-- a turn of a lane was made, by entries of the core
+pub record Follows {M D : Type 0} (who : ℕ) (old : Core M D) (l : Lane) (t : Turn) (new : Core M D) (m : Lane) (reply : List ℕ) : Type 0 where
+  pub entries : History
+  pub makes : Makes who l t entries reply m
+  pub extends : Extends old new entries
+
+-- a deframer of the target's side that has met no broken rule
+pub record IsSound (s : Stream) : Type 0 where
+  pub side : s.side ≡ Target
+  pub unbroken : s.broken ≡ None
+
+-- the next frame, with which a session goes on; after a broken rule the stream begins anew
+abbrev pub Goes : Front → Stream → Got → Stream → List ℕ → Type 0
+Goes (Short k) old (got.Need n) new buf = new ≡ old
+Goes (Broken r) old (got.Bad place reason) new buf = (place ≡ old.place) × (reason ≡ r) × (new ≡ record old { place = 0; held = []; broken = None })
+Goes (Whole f rest) old (got.Frame g) new buf =
+    (f ≡ frame_of g (take g.body buf)) × (new ≡ record old { place = (old.place + frame_size f) % 2 ^ 64; held = rest }) × IsProper old.side g buf
+Goes _ old _ new buf = ⊥
+
+-- how many of these bytes a lane takes, where it holds so many at most; a dead one drops all
+abbrev pub fed_at : Phase → List ℕ → List ℕ → ℕ
+fed_at Dead held bytes = length bytes
+fed_at _ held bytes = min (length bytes) (HELD - length held)
+
+abbrev pub fed : Lane → List ℕ → ℕ
+fed l bytes = fed_at l.phase l.bytes bytes

@@ -1,0 +1,4 @@
+pub mod Rooms
+pub mod Phases
+pub mod Sessions
+pub mod Following

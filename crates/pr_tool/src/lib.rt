@@ -1,0 +1,5 @@
+//! The program's commands as library calls.
+#![tactic(auto)]
+
+mod heads;
+mod session;
