@@ -1,8 +1,8 @@
 -- What is written is read back, and what is read is what was written.
-use Rattle.std.proofs.Common.{◌≡◌, ℕ, ◌+◌, ◌-◌, ◌≤◌, ◌<◌, ◌^◌, Bool, true, false, not, cond, ltb, eqb, ◌||◌, List, [], ◌∷◌, ◌++◌, length, take, drop, slice_index, get_or, All, refl, sym, ap, ◌∙◌, arith, append_assoc, inl, inr, lit<}
+use Rattle.std.proofs.Common.{◌≡◌, ℕ, ◌+◌, ◌-◌, ◌≤◌, ◌<◌, ◌^◌, Bool, true, false, cond, ltb, ◌||◌, List, [], ◌∷◌, ◌++◌, length, take, drop, slice_index, get_or, All, refl, sym, ap, ◌∙◌, arith, inl, inr, lit<}
 use Rattle.std.specs.Int.{w16, w32, from_be_bytes, to_be_bytes}
 use Rattle.std.proofs.Math.Seq.{take-add}
-use Rattle.std.proofs.lemmas.Bool.{le-ltb, ltb-false, not-false, or_from, or_parts, eqb-true, cases_lt}
+use Rattle.std.proofs.lemmas.Bool.{le-ltb, ltb-false, not-false, or_parts, eqb-true, cases_lt}
 use Rattle.std.proofs.lemmas.List.{take_at, drop_at, get_or_past, length-append, length-take-le, length-drop, drop-drop, take-append-drop}
 use Rattle.std.proofs.lemmas.List.Elements.{All-take, All-drop, All-get_or}
 use Rattle.std.proofs.lemmas.Nat.{from_be_bytes-to_be_bytes_2, from_be_bytes-to_be_bytes_4, be_bytes_2, be_bytes_4}

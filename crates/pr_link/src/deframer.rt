@@ -1,8 +1,8 @@
-ghost use Rattle.std.specs.Prelude.{◌≡◌, ℕ, ◌+◌, ◌-◌, ◌*◌, ◌%◌, ◌^◌, ◌≤◌, ◌<◌, ◌++◌, List, [], take, drop, length, None, IfOk};
+ghost use Rattle.std.specs.Prelude.{◌≡◌, ℕ, ◌+◌, ◌≤◌, ◌++◌, List, [], take, drop, length, IfOk};
 ghost use Rattle.circular_buffer.specs.Buffer.{buffer};
 ghost use Rattle.pr_words.specs.Fields.{number32_at};
-ghost use Rattle.pr_grammar.specs.Frames.{front, checked, is_body};
-ghost use Rattle.pr_link.specs.Streams.{Stream, Feeds, Gives, Checks};
+ghost use Rattle.pr_grammar.specs.Frames.{checked};
+ghost use Rattle.pr_link.specs.Streams.{Feeds, Gives, Checks};
 
 use crate::bodies::{is_received, is_well_formed};
 use crate::{Frame, Got};
