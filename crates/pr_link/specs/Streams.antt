@@ -14,12 +14,12 @@ pub record Stream : Type 0 where
   pub held : List ℕ
   pub broken : Option ℕ
 
--- as many of the first bytes as there is room for are held behind the others
+-- what is taken, by whether a rule was broken before: as many of the first bytes as there is room for, or all of them
 abbrev pub FeedsIf : Option ℕ → Stream → List ℕ → ℕ → Stream → Type 0
 FeedsIf None old bytes count new = (count ≡ min (length bytes) (524320 - length old.held)) × (new ≡ record old { held = old.held ++ take count bytes })
 FeedsIf (Some r) old bytes count new = (count ≡ length bytes) × (new ≡ old)
 
--- so many of the bytes are taken; after a broken rule all are taken and dropped
+-- what is taken of bytes that arrive, and the stream afterwards: what is taken is held behind the others, or dropped
 abbrev pub Feeds : Stream → List ℕ → ℕ → Stream → Type 0
 Feeds old bytes count new = FeedsIf old.broken old bytes count new
 
@@ -44,6 +44,7 @@ abbrev pub GivesAgain : Stream → ℕ → Got → Stream → Type 0
 GivesAgain old r (got.Bad place reason) new = (place ≡ old.place) × (reason ≡ r) × (new ≡ old)
 GivesAgain old r _ new = ⊥
 
+-- what is answered, by whether a rule was broken before
 abbrev pub GivesIf : Option ℕ → Stream → Got → Stream → List ℕ → Type 0
 GivesIf None old answer new buf = GivesAt old (front old.side old.held) answer new buf
 GivesIf (Some r) old answer new buf = GivesAgain old r answer new

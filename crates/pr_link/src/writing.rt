@@ -6,7 +6,7 @@ ghost use Rattle.pr_link.specs.Streams.{frame_of};
 use crate::Frame;
 use pr_words::Nexus;
 
-/// The bytes that stand before the body of a frame.
+/// The bytes that stand before the body of a frame: its length and its head.
 pub fn write_frame(frame: &Frame, head: &mut [u8; 12])
     requires { frame.now.body ≤ 524308 }
     ensures { (body : List ℕ) → length body ≡ frame.now.body → head.new ++ body ≡ spelled (frame_of frame.now body) }
@@ -26,7 +26,7 @@ pub fn write_login(version: u8, nexus: Nexus, out: &mut [u8; 12])
     *out = [version, 0, p0, p1, n0, n1, n2, n3, n4, n5, n6, n7];
 }
 
-/// What stands in the body of a Command before its data-out.
+/// What stands in the body of a Command before its data-out: a CDB of 1 to 16 bytes with its length.
 pub fn write_command(cdb: &[u8], out: &mut [u8; 20])
     requires few { length cdb.now ≤ 16 }
     requires some { 1 ≤ length cdb.now }
