@@ -1,2 +1,3 @@
+mod Ahead
 pub mod Pieces
 pub mod Sent

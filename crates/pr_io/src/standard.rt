@@ -1,4 +1,6 @@
-ghost use Rattle.std.specs.Prelude.{◌≡◌, ◌≤◌, ◌<◌, None, length, IfOk, IsOk};
+ghost use Rattle.std.specs.Prelude.{◌≡◌, ◌≤◌, ◌<◌, ◌++◌, None, length, take, slice_range, IfOk, IsOk, OnOk, OnErr};
+ghost use Rattle.std.specs.Io.KnownBytes.{Consumes, IsAtEnd, Keeps, ReadConsumes, WriteAppends};
+ghost use Rattle.pr_io.specs.Ahead.{left_of};
 ghost use Rattle.pr_io.specs.Causes.{HasCause};
 ghost use Rattle.pr_io.specs.Streams.{HasEnded, MovesInto, Reaches};
 
@@ -13,7 +15,8 @@ const AHEAD: usize = 65536;
 /// How often a call is made again that a signal interrupted.
 const TRIES: u32 = 1000;
 
-/// A source over a reader, as standard input. It tells nothing of what it holds.
+/// A source over a reader, as standard input. Its rest isn't told, as what a real stream holds
+/// can't be; what it gives is what the reader gave, in order, each byte once.
 ///
 /// It reads ahead in pieces of 64 KiB, so that small takes cost no system call.
 #[derive(Drop)]
@@ -25,6 +28,7 @@ pub struct StdinSource<R: Read + Drop> {
     faults: Faults,
     ghost order: { from ≤ to },
     ghost within: { to ≤ length ahead.items },
+    ghost room: { length ahead.items ≡ 65536 },
 }
 
 impl<R: Read + Drop> StdinSource<R> {
@@ -47,6 +51,11 @@ impl<R: Read + Drop> StdinSource<R> {
 
     /// Reads ahead, where nothing is held.
     fn read_ahead(&mut self) -> Result<(), Failed>
+        ensures front { self.new.from ≡ 0 }
+        ensures told { OnOk result (Consumes (R.remaining self.old.reader) (R.remaining self.new.reader) (take self.new.to self.new.ahead.items)) }
+        ensures end { OnOk result (self.new.to ≡ 0 → IsAtEnd (R.remaining self.new.reader)) }
+        ensures kept { OnErr result (Keeps (R.remaining self.old.reader) (R.remaining self.new.reader)) }
+        ensures none { OnErr result (self.new.to ≡ 0) }
         ensures cause { HasCause self.old.faults.count self.new.faults.count result }
         ensures calm { IsOk result → self.new.faults.count ≡ self.old.faults.count }
     {
@@ -54,6 +63,21 @@ impl<R: Read + Drop> StdinSource<R> {
         self.to = 0;
         self.to = read_some(&mut self.reader, &mut self.ahead, &mut self.faults)?;
         Ok(())
+    }
+
+    /// Moves what is held into the front of the buffer, as far as it has room.
+    fn give(&mut self, buf: &mut [u8]) -> usize
+        ensures count { result ≤ length buf.old }
+        ensures held { slice_range self.old.ahead.items self.old.from self.old.to ≡ take result buf.new ++ slice_range self.new.ahead.items self.new.from self.new.to }
+        ensures none { result ≡ 0 → 0 < length buf.old → self.old.from ≡ self.old.to }
+        ensures reader { self.new.reader ≡ self.old.reader }
+        ensures faults { self.new.faults.count ≡ self.old.faults.count }
+    {
+        let held = &self.ahead[self.from..self.to];
+        let n = held.len().min(buf.len());
+        buf[..n].copy_from_slice(&held[..n]);
+        self.from += n;
+        n
     }
 }
 
@@ -68,24 +92,21 @@ impl<R: Read + Drop> Source for StdinSource<R> {
         ensures end { IfOk result (λ n. HasEnded None n (length buf.old)) }
         ensures cause { HasCause self.old.faults.count self.new.faults.count result }
         ensures calm { IsOk result → self.new.faults.count ≡ self.old.faults.count }
+        ensures told { ReadConsumes (left_of self.old.ahead.items self.old.from self.old.to (R.remaining self.old.reader)) (left_of self.new.ahead.items self.new.from self.new.to (R.remaining self.new.reader)) result buf.new }
     {
-        if self.from == self.to {
-            if buf.len() >= AHEAD {
-                return read_some(&mut self.reader, buf, &mut self.faults);
-            }
-            if !buf.is_empty() {
-                self.read_ahead()?;
-            }
+        if self.from < self.to || buf.is_empty() {
+            return Ok(self.give(buf));
         }
-        let held = &self.ahead[self.from..self.to];
-        let n = held.len().min(buf.len());
-        buf[..n].copy_from_slice(&held[..n]);
-        self.from += n;
-        Ok(n)
+        if buf.len() >= AHEAD {
+            return read_some(&mut self.reader, buf, &mut self.faults);
+        }
+        self.read_ahead()?;
+        Ok(self.give(buf))
     }
 }
 
-/// A sink over a writer, as standard output. It tells nothing of what was put.
+/// A sink over a writer, as standard output. What was put isn't told, as what a real stream took
+/// can't be.
 ///
 /// Each piece goes out at once, in one call of the writer.
 #[derive(Drop)]
@@ -117,6 +138,7 @@ impl<W: Write + Drop> Sink for StdoutSink<W> {
         ensures bytes { Reaches None None result piece.now }
         ensures cause { HasCause self.old.faults.count self.new.faults.count result }
         ensures calm { IsOk result → self.new.faults.count ≡ self.old.faults.count }
+        ensures told { WriteAppends (W.contents self.old.writer) (W.contents self.new.writer) result piece.now }
     {
         let n = write_some(&mut self.writer, piece, &mut self.faults)?;
         if n == 0 && !piece.is_empty() {
@@ -129,6 +151,7 @@ impl<W: Write + Drop> Sink for StdoutSink<W> {
 /// One read, made again where a signal interrupts it.
 fn read_some<R: Read>(reader: &mut R, buf: &mut [u8], faults: &mut Faults) -> Result<usize, Failed>
     ensures count { IfOk result (λ n. n ≤ length buf.old) }
+    ensures told { ReadConsumes (R.remaining reader.old) (R.remaining reader.new) result buf.new }
     ensures cause { HasCause faults.old.count faults.new.count result }
     ensures calm { IsOk result → faults.new.count ≡ faults.old.count }
 {
@@ -148,6 +171,7 @@ fn read_some<R: Read>(reader: &mut R, buf: &mut [u8], faults: &mut Faults) -> Re
 /// One write, made again where a signal interrupts it.
 fn write_some<W: Write>(writer: &mut W, piece: &[u8], faults: &mut Faults) -> Result<usize, Failed>
     ensures count { IfOk result (λ n. n ≤ length piece.now) }
+    ensures told { WriteAppends (W.contents writer.old) (W.contents writer.new) result piece.now }
     ensures cause { HasCause faults.old.count faults.new.count result }
     ensures calm { IsOk result → faults.new.count ≡ faults.old.count }
 {

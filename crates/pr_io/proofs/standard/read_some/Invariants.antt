@@ -1,0 +1,10 @@
+use Rattle.std.proofs.Common.{◌≡◌, length}
+use Rattle.std.specs.Io.KnownBytes.{Keeps}
+use Rattle.pr_io.proofs.standard.read_some.Given as goal
+
+abbrev pub invariant-loop : goal.invariant-loop
+invariant-loop g l =
+    record {
+      same : length l.buf ≡ length l.initial.buf;
+      kept : Keeps (g.R.Read.remaining l.initial.reader) (g.R.Read.remaining l.reader);
+    }
