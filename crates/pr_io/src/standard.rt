@@ -38,7 +38,9 @@ impl<R: Read + Drop> StdinSource<R> {
     ///
     /// Where the memory for what is read ahead is refused.
     pub fn new(alloc: Global, reader: R) -> Result<StdinSource<R>, AllocError>
-        ensures { IfOk result (λ s. s.faults.count ≡ 0) }
+        ensures faults { IfOk result (λ s. s.faults.count ≡ 0) }
+        ensures reader { IfOk result (λ s. s.reader ≡ reader) }
+        ensures none { IfOk result (λ s. s.from ≡ s.to) }
     {
         Ok(StdinSource {
             reader,
@@ -118,7 +120,8 @@ pub struct StdoutSink<W: Write + Drop> {
 impl<W: Write + Drop> StdoutSink<W> {
     /// A sink over this writer.
     pub fn new(writer: W) -> StdoutSink<W>
-        ensures { result.faults.count ≡ 0 }
+        ensures faults { result.faults.count ≡ 0 }
+        ensures writer { result.writer ≡ writer }
     {
         StdoutSink {
             writer,
