@@ -1,5 +1,5 @@
 -- Bytes that are told, as they move in and out (this project's own).
-use Rattle.std.specs.Prelude.{◌≡◌, ℕ, ◌<◌, List, [], ◌++◌, take, Option, Some, None, Result, Ok, Err}
+use Rattle.std.specs.Prelude.{◌≡◌, ℕ, ◌<◌, List, [], ◌++◌, length, take, Option, Some, None, Result, Ok, Err}
 use Rattle.pr_io.specs.declared.outside.Failed.{Failed}
 
 -- the piece was taken from the front of what is left (this project's own)
@@ -8,9 +8,9 @@ Took None now piece = now ≡ None
 Took (Some before) None piece = ⊥
 Took (Some before) (Some now) piece = before ≡ piece ++ now
 
--- some bytes, maybe none, were taken from the front of what is left (this project's own)
-abbrev pub TookSome : Option (List ℕ) → Option (List ℕ) → Type 0
-TookSome before now = (piece : List ℕ) × Took before now piece
+-- fewer bytes than there is room for, maybe none, were taken from the front of what is left (this project's own)
+abbrev pub TookFewer : Option (List ℕ) → Option (List ℕ) → ℕ → Type 0
+TookFewer before now room = (piece : List ℕ) × Took before now piece × (length piece < room)
 
 -- the piece was put at the end of what is written (this project's own)
 abbrev pub Put : Option (List ℕ) → Option (List ℕ) → List ℕ → Type 0
