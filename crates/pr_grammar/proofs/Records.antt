@@ -1,0 +1,146 @@
+-- Records of a schedule are read as they are spelled, so a schedule is cut in one way, and ends in one way.
+use Rattle.std.proofs.Common.{◌≡◌, ℕ, ◌+◌, ◌-◌, ◌≤◌, ◌<◌, true, false, not, cond, ltb, List, [], ◌∷◌, ◌++◌, length, take, drop, refl, sym, ap, ◌∙◌, arith, append_assoc, inl, inr, subst}
+use Rattle.std.specs.List.{flat_map}
+use Rattle.std.specs.Int.{w16, from_be_bytes}
+use Rattle.std.proofs.lemmas.Bool.{lt-ltb, le-ltb}
+use Rattle.std.proofs.lemmas.List.{take_at, drop_at, take_all, length-append, drop-drop}
+use Rattle.std.proofs.lemmas.List.Elements.{All-cons, All-head, All-tail}
+use Rattle.std.proofs.Math.Seq.{take-append-add}
+use Rattle.std.proofs.lemmas.Nat.{from_be_bytes-to_be_bytes_2}
+use Rattle.pr_grammar.specs.Schedules.{Record, Arrival, Step_of, IsRecord, spelled_record, RecordFront, Partial, Faulty, Entire, can_begin, record_front, IsUnfinished, Cut, IsWhole, IsBroken, IsLong}
+
+arrival_front : (lanes lane a b : ℕ) (body rest : List ℕ) → from_be_bytes w16 (a ∷ b ∷ []) ≡ length body → lane < lanes
+    → record_front lanes (lane ∷ 0 ∷ a ∷ b ∷ (body ++ rest)) ≡ Entire (Arrival lane body) rest
+unfolding record_front
+arrival_front lanes lane a b body rest size fits =
+    let bytes : List ℕ = lane ∷ 0 ∷ a ∷ b ∷ (body ++ rest) in
+    let known : ltb lane lanes ≡ true = lt-ltb lane lanes fits in
+    let four : ltb (length bytes) 4 ≡ false = le-ltb _ _ (omega arith) in
+    let there : ltb (length bytes) (4 + length body) ≡ false = le-ltb _ _ (omega (arith, length-append body rest)) in
+    let content : take (length body) (body ++ rest) ≡ body = take_at body rest (length body) refl in
+    let back : 4 + length body - 4 ≡ length body = omega arith in
+    let left : drop (4 + length body) bytes ≡ rest = sym (drop-drop (length body) 4 bytes) ∙ drop_at body rest (length body) refl in
+    rw (known, size, four, there, back, content, left) refl
+
+step_front : (lanes lane : ℕ) (rest : List ℕ) → lane < lanes → record_front lanes (lane ∷ 1 ∷ 0 ∷ 0 ∷ rest) ≡ Entire (Step_of lane) rest
+unfolding record_front
+step_front lanes lane rest fits =
+    let known : ltb lane lanes ≡ true = lt-ltb lane lanes fits in
+    let bytes : List ℕ = lane ∷ 1 ∷ 0 ∷ 0 ∷ rest in
+    let four : ltb (length bytes) 4 ≡ false = le-ltb _ _ (omega arith) in
+    rw (known, four) refl
+
+-- a record that is spelled and then read, with anything behind it
+pub record_front-spelled : (lanes : ℕ) (r : Record) (rest : List ℕ) → IsRecord lanes r → record_front lanes (spelled_record r ++ rest) ≡ Entire r rest
+record_front-spelled lanes (Arrival lane bytes) rest valid = arrival_front lanes lane _ _ bytes rest (from_be_bytes-to_be_bytes_2 (length bytes) valid.1) valid.0
+record_front-spelled lanes (Step_of lane) rest valid = step_front lanes lane rest valid
+
+-- no record stands at the front of nothing
+pub nothing_unfinished : (lanes : ℕ) → IsUnfinished (record_front lanes [])
+unfolding record_front
+nothing_unfinished lanes = elim (can_begin lanes []) as (λ b. IsUnfinished (cond (not b) Faulty Partial)) [ true ↦ tt | false ↦ tt ]
+
+-- a whole record more before what was cut
+pub cut_more : (lanes : ℕ) (bytes : List ℕ) (r : Record) (records : List Record) (tail : List ℕ) → IsRecord lanes r → Cut lanes bytes records tail → Cut lanes (spelled_record r ++ bytes) (r ∷ records) tail
+cut_more lanes bytes r records tail valid cut =
+    record {
+      spelling = ap (λ (w : List ℕ). spelled_record r ++ w) cut.spelling ∙ sym (append_assoc (spelled_record r) (flat_map spelled_record records) tail);
+      valid = All-cons (IsRecord lanes) r records valid cut.valid;
+      unfinished = cut.unfinished;
+    }
+
+-- what stands at the front of bytes that are cut into a record and others
+front_of_cut : (lanes : ℕ) (bytes : List ℕ) (r : Record) (records : List Record) (tail : List ℕ) → Cut lanes bytes (r ∷ records) tail
+    → record_front lanes bytes ≡ Entire r (flat_map spelled_record records ++ tail)
+front_of_cut lanes bytes r records tail cut =
+    ap (record_front lanes) (cut.spelling ∙ append_assoc (spelled_record r) (flat_map spelled_record records) tail)
+    ∙ record_front-spelled lanes r (flat_map spelled_record records ++ tail) (All-head (IsRecord lanes) r records cut.valid)
+
+-- what is left of a cut behind its first record
+cut_less : (lanes : ℕ) (bytes : List ℕ) (r : Record) (records : List Record) (tail : List ℕ) → Cut lanes bytes (r ∷ records) tail
+    → Cut lanes (flat_map spelled_record records ++ tail) records tail
+cut_less lanes bytes r records tail cut = record { spelling = refl; valid = All-tail (IsRecord lanes) r records cut.valid; unfinished = cut.unfinished }
+
+unfinished_entire : (front : RecordFront) (r : Record) (rest : List ℕ) → IsUnfinished front → front ≡ Entire r rest → ⊥
+unfinished_entire Partial r rest unread is = cc
+unfinished_entire Faulty r rest unread is = cc
+unfinished_entire (Entire first behind) r rest unread is = unread
+
+same_first : (a b : Record) (s t : List ℕ) → Entire a s ≡ Entire b t → (a ≡ b) × (s ≡ t)
+same_first a b s t e = (cc, cc)
+
+-- bytes are cut in one way
+pub cut_once : (lanes : ℕ) (bytes : List ℕ) (records others : List Record) (tail end : List ℕ) → Cut lanes bytes records tail → Cut lanes bytes others end → (records ≡ others) × (tail ≡ end)
+cut_once lanes bytes [] [] tail end one two = (refl, sym one.spelling ∙ two.spelling)
+cut_once lanes bytes [] (r ∷ others) tail end one two =
+    absurd (unfinished_entire _ r _ one.unfinished (ap (record_front lanes) (sym one.spelling) ∙ front_of_cut lanes bytes r others end two))
+cut_once lanes bytes (r ∷ records) [] tail end one two =
+    absurd (unfinished_entire _ r _ two.unfinished (ap (record_front lanes) (sym two.spelling) ∙ front_of_cut lanes bytes r records tail one))
+cut_once lanes bytes (r ∷ records) (q ∷ others) tail end one two =
+    let same = same_first r q _ _ (sym (front_of_cut lanes bytes r records tail one) ∙ front_of_cut lanes bytes q others end two) in
+    let rest = cut_once lanes (flat_map spelled_record records ++ tail) records others tail end (cut_less lanes bytes r records tail one)
+    (subst (λ (w : List ℕ). Cut lanes w others end) (sym same.1) (cut_less lanes bytes q others end two)) in
+    (cc, rest.1)
+
+-- a schedule of one lane or more ends in one way
+
+faulty_nothing : (lanes : ℕ) → 0 < lanes → record_front lanes [] ≡ Faulty → ⊥
+unfolding record_front
+faulty_nothing lanes some is = let known : ltb 0 lanes ≡ true = lt-ltb 0 lanes some in let partial = rw known at is in cc
+
+pub not_whole_and_broken : (lanes budget : ℕ) (all : List ℕ) → 0 < lanes → IsWhole lanes budget all → IsBroken lanes budget all → ⊥
+not_whole_and_broken lanes budget all some whole broken =
+    let is : take budget all ≡ all = take_all budget all whole.0 in
+    let same = cut_once lanes all whole.1.0 broken.0 [] broken.1 whole.1.1 (subst (λ (w : List ℕ). Cut lanes w broken.0 broken.1) is broken.2) in
+    elim broken.3 [
+      | inl fault ↦ faulty_nothing lanes some (ap (record_front lanes) same.1 ∙ fault)
+      | inr short ↦ absurd (omega (arith, ap length same.1, short.1))
+    ]
+
+pub not_whole_and_long : (lanes budget : ℕ) (all : List ℕ) → IsWhole lanes budget all → IsLong lanes budget all → ⊥
+not_whole_and_long lanes budget all whole long = omega (arith, whole.0, long.0)
+
+pub not_broken_and_long : (lanes budget : ℕ) (all : List ℕ) → IsBroken lanes budget all → IsLong lanes budget all → ⊥
+not_broken_and_long lanes budget all broken long =
+    let same = cut_once lanes (take budget all) broken.0 long.1.0 broken.1 long.1.1 broken.2 long.1.2 in
+    elim broken.3 [
+      | inl fault ↦ let partial = long.1.3 in let e : record_front lanes broken.1 ≡ record_front lanes long.1.1 = ap (record_front lanes) same.1 in cc
+      | inr short ↦ absurd (omega (arith, short.0, long.0))
+    ]
+
+-- what ends the bytes behind a whole record ends all
+
+looked_at : (budget : ℕ) (r : Record) (later : List ℕ) → length (spelled_record r) ≤ budget → take budget (spelled_record r ++ later) ≡ spelled_record r ++ take (budget - length (spelled_record r)) later
+looked_at budget r later fits =
+    let parts : budget ≡ length (spelled_record r) + (budget - length (spelled_record r)) = omega arith in
+    ap (λ (n : ℕ). take n (spelled_record r ++ later)) parts ∙ take-append-add (spelled_record r) later (budget - length (spelled_record r))
+
+-- a whole record at the front of a schedule, within the budget
+pub record StandsFirst (lanes budget : ℕ) (r : Record) (later all : List ℕ) : Type 0 where
+  pub spelling : all ≡ spelled_record r ++ later
+  pub valid : IsRecord lanes r
+  pub fits : length (spelled_record r) ≤ budget
+
+pub whole_more : (lanes budget : ℕ) (r : Record) (later all : List ℕ) → StandsFirst lanes budget r later all → IsWhole lanes (budget - length (spelled_record r)) later → IsWhole lanes budget all
+whole_more lanes budget r later all first whole =
+    let fits = first.fits in
+    let size : length all ≡ length (spelled_record r) + length later = ap length first.spelling ∙ length-append (spelled_record r) later in
+    (omega (arith, size, fits, whole.0), (r ∷ whole.1.0, subst (λ (w : List ℕ). Cut lanes w (r ∷ whole.1.0) []) (sym first.spelling) (cut_more lanes later r whole.1.0 [] first.valid whole.1.1)))
+
+cut_first : (lanes budget : ℕ) (r : Record) (later all : List ℕ) (records : List Record) (tail : List ℕ) → StandsFirst lanes budget r later all → Cut lanes (take (budget - length (spelled_record r)) later) records tail
+    → Cut lanes (take budget all) (r ∷ records) tail
+cut_first lanes budget r later all records tail first cut =
+    let is : take budget all ≡ spelled_record r ++ take (budget - length (spelled_record r)) later = ap (take budget) first.spelling ∙ looked_at budget r later first.fits in
+    subst (λ (w : List ℕ). Cut lanes w (r ∷ records) tail) (sym is) (cut_more lanes _ r records tail first.valid cut)
+
+pub broken_more : (lanes budget : ℕ) (r : Record) (later all : List ℕ) → StandsFirst lanes budget r later all → IsBroken lanes (budget - length (spelled_record r)) later → IsBroken lanes budget all
+broken_more lanes budget r later all first broken =
+    let fits = first.fits in
+    let size : length all ≡ length (spelled_record r) + length later = ap length first.spelling ∙ length-append (spelled_record r) later in
+    (r ∷ broken.0, broken.1, cut_first lanes budget r later all broken.0 broken.1 first broken.2, elim broken.3 [ inl fault ↦ inl fault | inr short ↦ inr (omega (arith, size, fits, short.0), short.1) ])
+
+pub long_more : (lanes budget : ℕ) (r : Record) (later all : List ℕ) → StandsFirst lanes budget r later all → IsLong lanes (budget - length (spelled_record r)) later → IsLong lanes budget all
+long_more lanes budget r later all first long =
+    let fits = first.fits in
+    let size : length all ≡ length (spelled_record r) + length later = ap length first.spelling ∙ length-append (spelled_record r) later in
+    (omega (arith, size, fits, long.0), (r ∷ long.1.0, long.1.1, cut_first lanes budget r later all long.1.0 long.1.1 first long.1.2, long.1.3))
