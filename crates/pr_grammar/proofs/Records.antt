@@ -1,13 +1,15 @@
 -- Records of a schedule are read as they are spelled, so a schedule is cut in one way, and ends in one way.
-use Rattle.std.proofs.Common.{◌≡◌, ℕ, ◌+◌, ◌-◌, ◌≤◌, ◌<◌, true, false, not, cond, ltb, List, [], ◌∷◌, ◌++◌, length, take, drop, refl, sym, ap, ◌∙◌, arith, append_assoc, inl, inr, subst}
+use Rattle.std.proofs.Common.{◌≡◌, ℕ, ◌+◌, ◌-◌, ◌≤◌, ◌<◌, ◌^◌, Bool, true, false, not, cond, ltb, eqb, ◌||◌, ◌&&◌, ◌⊎◌, List, [], ◌∷◌, ◌++◌, length, take, drop, slice_index, get_or, All, refl, sym, ap, ◌∙◌, arith, append_assoc, inl, inr, subst}
 use Rattle.std.specs.List.{flat_map}
 use Rattle.std.specs.Int.{w16, from_be_bytes}
+use Rattle.std.proofs.lemmas.Bool.Decides.{nat_tests}
 use Rattle.std.proofs.lemmas.Bool.{lt-ltb, le-ltb}
 use Rattle.std.proofs.lemmas.List.{take_at, drop_at, take_all, length-append, drop-drop}
 use Rattle.std.proofs.lemmas.List.Elements.{All-cons, All-head, All-tail}
 use Rattle.std.proofs.Math.Seq.{take-append-add}
 use Rattle.std.proofs.lemmas.Nat.{from_be_bytes-to_be_bytes_2}
-use Rattle.pr_grammar.specs.Schedules.{Record, Arrival, Step_of, IsRecord, spelled_record, RecordFront, Partial, Faulty, Entire, can_begin, record_front, IsUnfinished, Cut, IsWhole, IsBroken, IsLong}
+use Rattle.pr_words.specs.Fields.{number16_at}
+use Rattle.pr_grammar.specs.Schedules.{Record, Arrival, Step_of, IsRecord, spelled_record, RecordFront, Partial, Faulty, Entire, can_begin, record_at, record_front, IsUnfinished, Cut, IsWhole, IsBroken, IsLong}
 
 arrival_front : (lanes lane a b : ℕ) (body rest : List ℕ) → from_be_bytes w16 (a ∷ b ∷ []) ≡ length body → lane < lanes
     → record_front lanes (lane ∷ 0 ∷ a ∷ b ∷ (body ++ rest)) ≡ Entire (Arrival lane body) rest
@@ -39,6 +41,72 @@ record_front-spelled lanes (Step_of lane) rest valid = step_front lanes lane res
 pub nothing_unfinished : (lanes : ℕ) → IsUnfinished (record_front lanes [])
 unfolding record_front
 nothing_unfinished lanes = elim (can_begin lanes []) as (λ b. IsUnfinished (cond (not b) Faulty Partial)) [ true ↦ tt | false ↦ tt ]
+
+-- what is no record yet, by the bytes that have come
+
+pub front_faulty : (lanes : ℕ) (bytes : List ℕ) → can_begin lanes bytes ≡ false → record_front lanes bytes ≡ Faulty
+unfolding record_front
+front_faulty lanes bytes not_begun = rw not_begun refl
+
+or_true : (a : Bool) → (a || true) ≡ true
+or_true true = refl
+or_true false = refl
+
+pub front_partial : (lanes : ℕ) (bytes : List ℕ) → can_begin lanes bytes ≡ true → length bytes < 4 + number16_at bytes 2 → record_front lanes bytes ≡ Partial
+unfolding record_front
+front_partial lanes bytes begun short =
+    let there : ltb (length bytes) (4 + number16_at bytes 2) ≡ true = lt-ltb _ _ short in
+    let both : (ltb (length bytes) 4 || ltb (length bytes) (4 + number16_at bytes 2)) ≡ true = rw there (or_true _) in
+    rw (begun, both) refl
+
+pub short_partial : (lanes : ℕ) (bytes : List ℕ) → can_begin lanes bytes ≡ true → length bytes < 4 → record_front lanes bytes ≡ Partial
+short_partial lanes bytes begun short = front_partial lanes bytes begun (omega arith)
+
+not_faulty : (short : Bool) (r : Record) (rest : List ℕ) → cond short Partial (Entire r rest) ≡ Faulty → ⊥
+not_faulty true r rest is = cc
+not_faulty false r rest is = cc
+
+begun_not_faulty : (lanes : ℕ) (bytes : List ℕ) → can_begin lanes bytes ≡ true → record_front lanes bytes ≡ Faulty → ⊥
+unfolding record_front
+begun_not_faulty lanes bytes begun fault = not_faulty (ltb (length bytes) 4 || ltb (length bytes) (4 + number16_at bytes 2)) (record_at bytes) (drop (4 + number16_at bytes 2) bytes) (rw begun at fault)
+
+unfinished_when : (begun : Bool) (lanes : ℕ) (bytes : List ℕ) → can_begin lanes bytes ≡ begun → length bytes < 4 → IsUnfinished (record_front lanes bytes)
+unfinished_when true lanes bytes is short = rw (short_partial lanes bytes is short) tt
+unfinished_when false lanes bytes is short = rw (front_faulty lanes bytes is) tt
+
+faulty_not_begun : (begun : Bool) (lanes : ℕ) (bytes : List ℕ) → can_begin lanes bytes ≡ begun → record_front lanes bytes ≡ Faulty → can_begin lanes bytes ≡ false
+faulty_not_begun true lanes bytes is fault = absurd (begun_not_faulty lanes bytes is fault)
+faulty_not_begun false lanes bytes is fault = is
+
+pub short_unfinished : (lanes : ℕ) (bytes : List ℕ) → length bytes < 4 → IsUnfinished (record_front lanes bytes)
+short_unfinished lanes bytes short = unfinished_when (can_begin lanes bytes) lanes bytes refl short
+
+-- the first four bytes, as far as they have come, can become a record's head
+abbrev pub Begins : ℕ → ℕ → ℕ → ℕ → ℕ → Type 0
+Begins lanes a b c d = (a < lanes) × (b < 2) × ((b ≡ 0) ⊎ ((c ≡ 0) × (d ≡ 0)))
+
+begins : (lanes a b c d : ℕ) → (ltb a lanes && ltb b 2 && (eqb b 0 || (eqb c 0 && eqb d 0))) ≡ true → Begins lanes a b c d
+begins lanes a b c d is = grind (arith, nat_tests)
+
+begun : (lanes a b c d : ℕ) → Begins lanes a b c d → (ltb a lanes && ltb b 2 && (eqb b 0 || (eqb c 0 && eqb d 0))) ≡ true
+begun lanes a b c d is = grind (arith, nat_tests)
+
+-- each field may be zero, so the front of what can become a record can become one
+pub begun_before : (lanes : ℕ) (bytes more : List ℕ) → can_begin lanes (bytes ++ more) ≡ true → can_begin lanes bytes ≡ true
+begun_before lanes [] more is = let known : Begins lanes (slice_index more 0) (slice_index more 1) (slice_index more 2) (slice_index more 3) = begins lanes (slice_index more 0) (slice_index more 1) (slice_index more 2) (slice_index more 3) is in begun lanes 0 0 0 0 (omega (arith, known.0), omega arith, inl refl)
+begun_before lanes (a ∷ []) more is = let known : Begins lanes a (slice_index more 0) (slice_index more 1) (slice_index more 2) = begins lanes a (slice_index more 0) (slice_index more 1) (slice_index more 2) is in begun lanes a 0 0 0 (known.0, omega arith, inl refl)
+begun_before lanes (a ∷ b ∷ []) more is = let known : Begins lanes a b (slice_index more 0) (slice_index more 1) = begins lanes a b (slice_index more 0) (slice_index more 1) is in begun lanes a b 0 0 (known.0, known.1, inr (refl, refl))
+begun_before lanes (a ∷ b ∷ c ∷ []) more is =
+    let known : Begins lanes a b c (slice_index more 0) = begins lanes a b c (slice_index more 0) is in begun lanes a b c 0 (known.0, known.1, elim known.2 [ inl arrival ↦ inl arrival | inr step ↦ inr (step.0, refl) ])
+begun_before lanes (a ∷ b ∷ c ∷ d ∷ bytes) more is = is
+
+faulty_when : (is_begun : Bool) (lanes : ℕ) (bytes more : List ℕ) → can_begin lanes (bytes ++ more) ≡ is_begun → can_begin lanes bytes ≡ false → can_begin lanes (bytes ++ more) ≡ false
+faulty_when true lanes bytes more is fault = absurd (let before : can_begin lanes bytes ≡ true = begun_before lanes bytes more is in cc)
+faulty_when false lanes bytes more is fault = is
+
+-- what can't become a record can't with more behind it
+pub faulty_more : (lanes : ℕ) (bytes more : List ℕ) → record_front lanes bytes ≡ Faulty → record_front lanes (bytes ++ more) ≡ Faulty
+faulty_more lanes bytes more fault = front_faulty lanes (bytes ++ more) (faulty_when (can_begin lanes (bytes ++ more)) lanes bytes more refl (faulty_not_begun (can_begin lanes bytes) lanes bytes refl fault))
 
 -- a whole record more before what was cut
 pub cut_more : (lanes : ℕ) (bytes : List ℕ) (r : Record) (records : List Record) (tail : List ℕ) → IsRecord lanes r → Cut lanes bytes records tail → Cut lanes (spelled_record r ++ bytes) (r ∷ records) tail
