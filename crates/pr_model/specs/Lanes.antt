@@ -60,12 +60,12 @@ phase_after_login n code = if code == 0 then In n else Fresh
 abbrev pub after_login : Frame → List ℕ → ℕ → Out → Turned
 after_login f rest place (Login_code code) =
     turned (lane rest (phase_after_login (login_nexus f.body) code) place) (replied f 0x81 (login_reply code))
-after_login f rest place _ = turned fresh []
+after_login f rest place _ = turned dead []
 
 abbrev pub after_command : Nexus → Frame → List ℕ → ℕ → Out → Turned
 after_command n f rest place (Ended status sense data_in) =
     turned (lane rest (In n) place) (replied f 0x82 (command_reply status sense data_in))
-after_command n f rest place _ = turned fresh []
+after_command n f rest place _ = turned dead []
 
 abbrev pub after_logout : Frame → Turned
 after_logout f = turned dead (replied f 0x83 [])

@@ -9,3 +9,4 @@ pub mod Commands
 pub mod Histories
 pub mod Lanes
 pub mod Runs
+pub mod Laws

@@ -1,7 +1,13 @@
 //! What the target may do: worlds, histories, sessions and runs.
 //!
-//! The definitions stand in `specs/`; every contract above cites them.
+//! The definitions stand in `specs/`; every contract above cites them. The functions have no code:
+//! their contracts are laws of the definitions.
 #![tactic(auto)]
 
-/// There is no code here: the definitions are all.
-pub fn definitions() {}
+ghost use Rattle.pr_model.specs.Laws.{BytesWait};
+
+/// Bytes that wait behind a full buffer change no turn: they go on waiting behind what is left.
+pub fn bytes_wait()
+    ensures { BytesWait }
+{
+}
