@@ -2,3 +2,5 @@ pub mod Turns
 pub mod Replying
 pub mod Parts
 pub mod Makings
+mod Stopping
+pub mod Causes

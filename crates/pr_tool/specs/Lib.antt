@@ -2,3 +2,5 @@ pub mod Rooms
 pub mod Phases
 pub mod Sessions
 pub mod Following
+pub mod Statuses
+pub mod Reading

@@ -1,5 +1,9 @@
 //! The program's commands as library calls.
 #![tactic(auto)]
 
+mod exit;
 mod heads;
+mod schedule;
 mod session;
+
+pub use exit::{Exit, Fault};

@@ -1,0 +1,146 @@
+ghost use Rattle.std.specs.Prelude.{◌≡◌, ◌≤◌, ◌<◌, true, Err, length, slice_index, IfOk, IfErr, OnOk};
+ghost use Rattle.pr_io.specs.Streams.{Took};
+ghost use Rattle.pr_io.specs.Causes.{Rose};
+ghost use Rattle.pr_grammar.specs.Schedules as schedules;
+ghost use Rattle.pr_tool.specs.Reading.{Reads, Stops, Cuts, Ends, end_at};
+
+use pr_io::{Source, read_up_to};
+use pr_words::get_u16;
+
+/// A record of a schedule, as it was read.
+#[derive(Clone, Copy, Debug, PartialEq, Eq)]
+pub(crate) enum Record {
+    /// Bytes arrive on a lane: the first `len` bytes of the buffer that they were read into.
+    Arrival { lane: u8, len: usize },
+    /// A lane takes a step.
+    Step { lane: u8 },
+}
+
+/// Why no record was read.
+#[derive(Clone, Copy, Debug, PartialEq, Eq)]
+pub(crate) enum End {
+    /// The schedule has ended, where a record may begin.
+    Done,
+    /// The source failed.
+    ReadFault,
+    /// What comes can't become a record, or the schedule ended inside one.
+    Broken,
+    /// The schedule goes on behind the last byte that is looked at.
+    TooLong,
+}
+
+impl End {
+    /// The end of a schedule: whether it came inside a record that had begun.
+    fn at(begun: bool) -> End
+        ensures { result ≡ end_at begun }
+    {
+        if begun { End::Broken } else { End::Done }
+    }
+}
+
+/// The byte at a place, and zero where none has come.
+fn byte_at(bytes: &[u8], at: usize) -> u8
+    ensures { result ≡ slice_index bytes.now at }
+{
+    bytes.get(at).copied().unwrap_or(0)
+}
+
+/// Whether these can be the first bytes of a record.
+fn can_begin(lanes: u8, bytes: &[u8]) -> bool
+    ensures { result ≡ schedules.can_begin lanes bytes.now }
+{
+    let kind = byte_at(bytes, 1);
+    let is_empty = byte_at(bytes, 2) == 0 && byte_at(bytes, 3) == 0;
+    byte_at(bytes, 0) < lanes && kind < 2 && (kind == 0 || is_empty)
+}
+
+/// Takes one byte more, to see whether the source has ended where no more is looked at.
+fn look_behind<S: Source>(source: &mut S, begun: bool) -> End
+    ensures ends { Ends begun result (S.rest source.old) (S.rest source.new) }
+    ensures later { S.faults source.old ≤ S.faults source.new }
+    ensures fault { result ≡ End.ReadFault → Rose (S.faults source.old) (S.faults source.new) }
+{
+    match source.take(&mut [0]) {
+        Ok(0) => End::at(begun),
+        Ok(_) => End::TooLong,
+        Err(_) => End::ReadFault,
+    }
+}
+
+/// Reads the four bytes of a record's head, of `left` bytes that may still be looked at.
+fn read_head<S: Source>(source: &mut S, lanes: u8, left: u64) -> Result<[u8; 4], End>
+    ensures took { IfOk result (λ head. Took (S.rest source.old) (S.rest source.new) head) }
+    ensures begins { IfOk result (λ head. schedules.can_begin lanes head ≡ true) }
+    ensures room { OnOk result (4 ≤ left) }
+    ensures stops { IfErr result (λ end. Stops lanes left end (S.rest source.old) (S.rest source.new)) }
+    ensures later { S.faults source.old ≤ S.faults source.new }
+    ensures fault { result ≡ Err End.ReadFault → Rose (S.faults source.old) (S.faults source.new) }
+{
+    let mut head = [0; 4];
+    let room = left.min(4) as usize;
+    let Ok(got) = read_up_to(source, &mut head[..room]) else {
+        return Err(End::ReadFault);
+    };
+    if got < room {
+        return Err(End::at(got > 0));
+    }
+    if !can_begin(lanes, &head[..room]) {
+        return Err(End::Broken);
+    }
+    if room < 4 {
+        return Err(look_behind(source, room > 0));
+    }
+    Ok(head)
+}
+
+/// Reads the bytes of an arrival behind its head, of `left` bytes that may still be looked at.
+fn read_body<S: Source>(source: &mut S, left: u64, body: &mut [u8]) -> Result<(), End>
+    requires { length body.old < 65536 }
+    ensures took { OnOk result (Took (S.rest source.old) (S.rest source.new) body.new) }
+    ensures room { OnOk result (length body.old ≤ left) }
+    ensures cuts { IfErr result (λ end. Cuts (length body.old) left end (S.rest source.old) (S.rest source.new)) }
+    ensures later { S.faults source.old ≤ S.faults source.new }
+    ensures fault { result ≡ Err End.ReadFault → Rose (S.faults source.old) (S.faults source.new) }
+{
+    let room = left.min(body.len() as u64) as usize;
+    let Ok(got) = read_up_to(source, &mut body[..room]) else {
+        return Err(End::ReadFault);
+    };
+    if got < room {
+        return Err(End::Broken);
+    }
+    if room < body.len() {
+        return Err(look_behind(source, true));
+    }
+    Ok(())
+}
+
+/// Reads one record of a schedule of so many lanes, of `left` bytes that may still be looked at.
+///
+/// The buffer has room for the 65,535 bytes that an arrival may bring. Where the last byte that
+/// may be looked at comes inside a record or behind one, one byte more is taken, to see whether
+/// the schedule ends there.
+///
+/// # Errors
+///
+/// Where no record was read, and why. Bytes of a record that was begun are lost.
+pub(crate) fn read_record<S: Source>(
+    source: &mut S,
+    lanes: u8,
+    left: u64,
+    body: &mut [u8],
+) -> Result<Record, End>
+    requires { 65535 ≤ length body.old }
+    ensures reads { Reads lanes left result (S.rest source.old) (S.rest source.new) body.new }
+    ensures later { S.faults source.old ≤ S.faults source.new }
+    ensures fault { result ≡ Err End.ReadFault → Rose (S.faults source.old) (S.faults source.new) }
+{
+    let head = read_head(source, lanes, left)?;
+    let lane = head[0];
+    if head[1] == 1 {
+        return Ok(Record::Step { lane });
+    }
+    let len = usize::from(get_u16(&head, 2));
+    read_body(source, left - 4, &mut body[..len])?;
+    Ok(Record::Arrival { lane, len })
+}
