@@ -27,6 +27,7 @@ pub struct Deframer {
     place: u64,
     broken: Option<u8>,
     ghost room: { held.capacity ≡ 524320 },
+    ghost fits: { length held.items ≤ 524320 },
 }
 
 impl Deframer {
@@ -62,7 +63,8 @@ impl Deframer {
     /// Takes the first bytes, as many as there is room for, and answers how many. After a broken rule it takes and drops
     /// all.
     pub fn feed(&mut self, bytes: &[u8]) -> usize
-        ensures { Feeds (stream_of self.old) bytes.now result (stream_of self.new) }
+        ensures feeds { Feeds (stream_of self.old) bytes.now result (stream_of self.new) }
+        ensures bound { length (held_of self.new) ≤ 524320 }
     {
         if self.broken.is_some() {
             return bytes.len();
@@ -142,6 +144,7 @@ fn read_front(held: &mut HeapCircularBuffer<u8>, dst: &mut [u8])
     requires { length dst.old ≤ length held.old.items }
     ensures bytes { dst.new ≡ take (length dst.old) held.old.items }
     ensures rest { held.new ≡ buffer (drop (length dst.old) held.old.items) held.old.capacity }
+    ensures fewer { length held.new.items ≤ length held.old.items }
 {
     held.read_into(dst);
 }
@@ -158,6 +161,7 @@ fn take_frame(
     requires room { len ≤ length buf.old }
     ensures gives { Checks side (checked side (take len (drop 4 held.old.items)) (drop (4 + len) held.old.items)) result held.new.items buf.new }
     ensures capacity { held.new.capacity ≡ held.old.capacity }
+    ensures fewer { length held.new.items ≤ length held.old.items }
 {
     let mut size = [0u8; 4];
     read_front(held, &mut size);

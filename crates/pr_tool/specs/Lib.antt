@@ -4,3 +4,4 @@ pub mod Sessions
 pub mod Following
 pub mod Statuses
 pub mod Reading
+pub mod Exits

@@ -3,6 +3,7 @@
 
 mod exit;
 mod heads;
+mod output;
 mod schedule;
 mod session;
 

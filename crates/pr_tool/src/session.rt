@@ -1,9 +1,12 @@
-ghost use Rattle.std.specs.Prelude.{◌≡◌, ◌+◌, ◌-◌, ◌≤◌, ◌<◌, ◌∷◌, ◌++◌, [], ℕ, List, Some, None, true, take, drop, length, vec_len, IfOk, MatchBool};
+ghost use Rattle.std.specs.Prelude.{◌≡◌, ◌+◌, ◌-◌, ◌≤◌, ◌<◌, ◌∷◌, ◌++◌, [], ℕ, List, Some, None, true, take, drop, length, vec_len, IfOk, OnOk, OnErr, MatchBool};
 ghost use Rattle.pr_grammar.specs.Bodies.{login_version, login_nexus, login_reply, command_reply, command_cdb, command_data, is_command_body};
 ghost use Rattle.pr_grammar.specs.Frames.{front, frame, spelled};
 ghost use Rattle.pr_grammar.specs.Frames as frames;
 ghost use Rattle.pr_words.specs.declared.nexus.Nexus.{Nexus};
 ghost use Rattle.pr_words.specs.declared.nexus.Side.TheVariants.{Target};
+ghost use Rattle.pr_io.specs.Streams.{Put, PutSome};
+ghost use Rattle.pr_io.specs.Causes.{HasCause};
+ghost use Rattle.pr_grammar.specs.Outputs.{output_of};
 ghost use Rattle.pr_model.specs.Limits.{HELD};
 ghost use Rattle.pr_model.specs.Entries.{entry, Login, Command};
 ghost use Rattle.pr_model.specs.Lanes.{Lane, lane, turn, broken, asked, fresh, dead, arrived, rejected, replied, place_after, phase_after_login, after_login, after_command, after_logout, Asks};
@@ -16,9 +19,10 @@ ghost use Rattle.pr_tool.specs.Rooms.{answer_body};
 ghost use Rattle.pr_tool.specs.Phases.{phase_of, IsAlive};
 ghost use Rattle.pr_tool.specs.Following.{Agrees, Follows, IsSound, Goes, fed};
 
+use crate::output::write_output;
 use crate::heads::{empty_head, reject_head, reply_head, sense_head, write_front};
 use pr_core::{CommandOut, Core};
-use pr_io::{Disk, Medium};
+use pr_io::{Disk, Failed, Medium, Sink};
 use pr_link::{Deframer, Frame, Got};
 use pr_words::{Nexus, Sense, Side, Status, get_u16, get_u64};
 use std::alloc::{AllocError, Global};
@@ -87,11 +91,22 @@ impl Session {
     pub fn feed(&mut self, bytes: &[u8]) -> usize
         ensures count { result ≡ fed (lane_of self.old) bytes.now }
         ensures lane { lane_of self.new ≡ arrived (lane_of self.old) (take result bytes.now) }
+        ensures bound { length (lane_of self.new).bytes ≤ HELD }
     {
         if self.is_dead() {
             return bytes.len();
         }
         self.deframer.feed(bytes)
+    }
+
+    /// Writes the reply that waits, as the output of a lane.
+    pub fn write_reply<K: Sink>(&mut self, sink: &mut K, lane: u8) -> Result<(), Failed>
+        ensures all { OnOk result (Put (K.written sink.old) (K.written sink.new) (output_of lane (reply_of self.old))) }
+        ensures some { OnErr result (PutSome (K.written sink.old) (K.written sink.new) (output_of lane (reply_of self.old))) }
+        ensures cause { HasCause (K.faults sink.old) (K.faults sink.new) result }
+        ensures lane { lane_of self.new ≡ lane_of self.old }
+    {
+        write_output(sink, lane, &mut self.work, self.reply)
     }
 
     /// One turn, whose reply then waits.
