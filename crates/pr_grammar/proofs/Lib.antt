@@ -1,3 +1,4 @@
 pub mod Fronts
 pub mod Spellings
 pub mod Records
+pub mod Beginnings

@@ -1,5 +1,5 @@
 -- Records of a schedule are read as they are spelled, so a schedule is cut in one way, and ends in one way.
-use Rattle.std.proofs.Common.{◌≡◌, ℕ, ◌+◌, ◌-◌, ◌≤◌, ◌<◌, ◌^◌, Bool, true, false, not, cond, ltb, eqb, ◌||◌, ◌&&◌, ◌⊎◌, List, [], ◌∷◌, ◌++◌, length, take, drop, slice_index, get_or, All, refl, sym, ap, ◌∙◌, arith, append_assoc, inl, inr, subst}
+use Rattle.std.proofs.Common.{◌≡◌, ℕ, ◌+◌, ◌-◌, ◌≤◌, ◌<◌, Bool, true, false, not, cond, ltb, eqb, ◌||◌, ◌&&◌, ◌⊎◌, List, [], ◌∷◌, ◌++◌, length, take, drop, slice_index, refl, sym, ap, ◌∙◌, arith, append_assoc, inl, inr, subst}
 use Rattle.std.specs.List.{flat_map}
 use Rattle.std.specs.Int.{w16, from_be_bytes}
 use Rattle.std.proofs.lemmas.Bool.Decides.{nat_tests}
@@ -85,7 +85,7 @@ short_unfinished lanes bytes short = unfinished_when (can_begin lanes bytes) lan
 abbrev pub Begins : ℕ → ℕ → ℕ → ℕ → ℕ → Type 0
 Begins lanes a b c d = (a < lanes) × (b < 2) × ((b ≡ 0) ⊎ ((c ≡ 0) × (d ≡ 0)))
 
-begins : (lanes a b c d : ℕ) → (ltb a lanes && ltb b 2 && (eqb b 0 || (eqb c 0 && eqb d 0))) ≡ true → Begins lanes a b c d
+pub begins : (lanes a b c d : ℕ) → (ltb a lanes && ltb b 2 && (eqb b 0 || (eqb c 0 && eqb d 0))) ≡ true → Begins lanes a b c d
 begins lanes a b c d is = grind (arith, nat_tests)
 
 begun : (lanes a b c d : ℕ) → Begins lanes a b c d → (ltb a lanes && ltb b 2 && (eqb b 0 || (eqb c 0 && eqb d 0))) ≡ true

@@ -116,13 +116,13 @@ found side bytes f rest e = found_sized side bytes f rest (four_held _ _ _ f res
 abbrev pub IsByte : ℕ → Type 0
 IsByte b = b < 256
 
-part_small : (n m : ℕ) (xs : List ℕ) → All IsByte xs → All IsByte (take n (drop m xs))
+pub part_small : (n m : ℕ) (xs : List ℕ) → All IsByte xs → All IsByte (take n (drop m xs))
 part_small n m xs small = All-take IsByte n (drop m xs) (All-drop IsByte m xs small)
 
-small_at : (xs : List ℕ) → All IsByte xs → (i : ℕ) → get_or xs i 0 < 256
+pub small_at : (xs : List ℕ) → All IsByte xs → (i : ℕ) → get_or xs i 0 < 256
 small_at xs small i = elim (cases_lt i (length xs)) [ inl h ↦ All-get_or IsByte xs i 0 h small | inr h ↦ rw (get_or_past xs i 0 h) (lit< tt) ]
 
-two_bytes : (a b : ℕ) → All IsByte (a ∷ b ∷ []) → to_be_bytes w16 (from_be_bytes w16 (a ∷ b ∷ [])) ≡ a ∷ b ∷ []
+pub two_bytes : (a b : ℕ) → All IsByte (a ∷ b ∷ []) → to_be_bytes w16 (from_be_bytes w16 (a ∷ b ∷ [])) ≡ a ∷ b ∷ []
 two_bytes a b small = be_bytes_2 (a ∷ b ∷ []) _ refl (small_at (a ∷ b ∷ []) small) refl
 
 four_bytes : (a b c d : ℕ) → All IsByte (a ∷ b ∷ c ∷ d ∷ []) → to_be_bytes w32 (from_be_bytes w32 (a ∷ b ∷ c ∷ d ∷ [])) ≡ a ∷ b ∷ c ∷ d ∷ []

@@ -7,3 +7,4 @@ pub mod Frames
 pub mod Bodies
 pub mod Schedules
 pub mod Outputs
+pub mod Laws

@@ -3,5 +3,14 @@
 //! The definitions stand in `specs/`; the crates that read and write the layouts cite them.
 #![tactic(auto)]
 
-/// There is no code here: the definitions are all.
+ghost use Rattle.pr_grammar.specs.Laws.{Becomes, NeverBecomes};
+
+/// The definitions are all: there is no code here but laws.
 pub fn definitions() {}
+
+/// A law, proved by its contract: the bytes that can begin a record of a schedule are those that
+/// some more bytes make one.
+pub fn can_begin_is_exact()
+    ensures becomes { Becomes }
+    ensures never { NeverBecomes }
+{}
