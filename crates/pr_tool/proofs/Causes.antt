@@ -1,11 +1,12 @@
 -- Why no record was read, of a schedule whose bytes are told.
-use Rattle.std.proofs.Common.{◌≡◌, ℕ, ◌+◌, ◌-◌, ◌≤◌, List, [], ◌++◌, length, take, Option, Some, None, ap, ◌∙◌, arith, inl, inr, append_assoc}
+use Rattle.std.proofs.Common.{◌≡◌, ℕ, ◌+◌, ◌-◌, ◌≤◌, List, [], ◌++◌, length, take, Option, Some, None, Ok, ap, ◌∙◌, arith, inl, inr, append_assoc}
 use Rattle.std.proofs.lemmas.List.{append-nil, take_all, take_at, length-append}
 use Rattle.std.proofs.lemmas.List.Elements.{All-nil}
 use Rattle.std.proofs.Math.Seq.{take-append-add}
-use Rattle.pr_grammar.specs.Schedules.{IsRecord, Faulty, record_front, IsUnfinished, Cut, IsWhole, IsBroken, IsLong}
-use Rattle.pr_grammar.proofs.Records.{nothing_unfinished, faulty_more}
-use Rattle.pr_tool.specs.Reading.{Stops}
+use Rattle.pr_grammar.specs.Schedules.{Record, spelled_record, IsRecord, Faulty, record_front, IsUnfinished, Cut, IsWhole, IsBroken, IsLong}
+use Rattle.pr_grammar.proofs.Records.{nothing_unfinished, faulty_more, StandsFirst, whole_more, broken_more, long_more}
+use Rattle.pr_tool.specs.Reading.{Stops, Reads, record_of}
+use Rattle.pr_tool.specs.declared.schedule.Record.{Record as Found}
 use Rattle.pr_tool.specs.declared.schedule.End.TheVariants.{Done, Broken, TooLong}
 
 -- bytes at whose front no whole record stands are cut into none
@@ -47,3 +48,25 @@ too_long_long lanes left all (Some rest) stops =
     let is : all ≡ tail ++ (stops.1 ++ rest) = stops.2 ∙ append_assoc tail stops.1 rest in
     let looked : take left all ≡ tail = ap (take left) is ∙ take_at tail (stops.1 ++ rest) left stops.4 in
     (omega (arith, ap length is, length-append tail (stops.1 ++ rest), length-append stops.1 rest, stops.4, stops.5), ([], tail, cut_none lanes (take left all) tail looked (rw stops.3 tt), stops.3))
+
+-- a record that was read stands first in what was left
+pub read_first : (lanes left : ℕ) (found : Found) (before now body : List ℕ) → Reads lanes left (Ok found) (Some before) (Some now) body → StandsFirst lanes left (record_of found body) now before
+read_first lanes left found before now body reads = record { spelling = reads.0; valid = reads.1; fits = reads.2 }
+
+-- as what is left of a schedule ends, so does all of it
+pub record Carries (lanes budget left : ℕ) (all rest : List ℕ) : Type 0 where
+  pub whole : IsWhole lanes left rest → IsWhole lanes budget all
+  pub broken : IsBroken lanes left rest → IsBroken lanes budget all
+  pub long : IsLong lanes left rest → IsLong lanes budget all
+
+pub carries_all : (lanes budget : ℕ) (all : List ℕ) → Carries lanes budget budget all all
+carries_all lanes budget all = record { whole = λ w. w; broken = λ b. b; long = λ l. l }
+
+pub carries_more : (lanes budget left : ℕ) (r : Record) (all rest later : List ℕ) → StandsFirst lanes left r later rest → Carries lanes budget left all rest
+    → Carries lanes budget (left - length (spelled_record r)) all later
+carries_more lanes budget left r all rest later first carries =
+    record {
+      whole = λ w. carries.whole (whole_more lanes left r later rest first w);
+      broken = λ b. carries.broken (broken_more lanes left r later rest first b);
+      long = λ l. carries.long (long_more lanes left r later rest first l);
+    }
