@@ -3,5 +3,7 @@ pub mod Replying
 pub mod Parts
 pub mod Makings
 pub mod Outputting
+pub mod Running
+pub mod Standing
 mod Stopping
 pub mod Causes

@@ -1,5 +1,5 @@
 -- Output that is written record by record.
-use Rattle.std.proofs.Common.{◌≡◌, ℕ, suc, zero, ◌+◌, ◌-◌, ◌≤◌, ◌<◌, Bool, true, false, eqb, List, [], ◌∷◌, ◌++◌, length, take, drop, Option, Some, min, refl, sym, ap, ◌∙◌, append_assoc, subst, arith, inl, inr}
+use Rattle.std.proofs.Common.{◌≡◌, ℕ, suc, zero, ◌+◌, ◌-◌, ◌≤◌, ◌<◌, false, eqb, List, [], ◌++◌, length, take, drop, Option, min, refl, sym, ap, ◌∙◌, append_assoc, subst, arith, inl, inr}
 use Rattle.std.proofs.lemmas.List.{append-nil, take_all, drop_all, drop-drop, length-take, length-drop}
 use Rattle.std.proofs.Math.Seq.{take-add}
 use Rattle.std.proofs.lemmas.Bool.{ne_eqb, eq-eqb, cases_lt}
@@ -20,8 +20,8 @@ enough (suc n) (suc m) who xs a b =
     elim (cases_lt 0 (length xs)) [
       | inr none ↦ none_left (suc n) who xs (omega (arith, none)) ∙ sym (none_left (suc m) who xs (omega (arith, none)))
       | inl some ↦
-        let is : eqb (length xs) 0 ≡ false = ne_eqb (length xs) 0 (λ e. absurd (omega (arith, e, some))) in
-        rw is (ap (λ (w : List ℕ). output_record who (take 65535 xs) ++ w) (enough n m who (drop 65535 xs) (omega (arith, length-drop 65535 xs, a, some)) (omega (arith, length-drop 65535 xs, b, some))))
+          let is : eqb (length xs) 0 ≡ false = ne_eqb (length xs) 0 (λ e. absurd (omega (arith, e, some))) in
+          rw is (ap (λ (w : List ℕ). output_record who (take 65535 xs) ++ w) (enough n m who (drop 65535 xs) (omega (arith, length-drop 65535 xs, a, some)) (omega (arith, length-drop 65535 xs, b, some))))
     ]
 
 first_record : (n who : ℕ) (xs : List ℕ) → length xs ≡ suc n → output_records (suc n) who xs ≡ output_record who (take 65535 xs) ++ output_records (length (drop 65535 xs)) who (drop 65535 xs)

@@ -5,3 +5,4 @@ pub mod Following
 pub mod Statuses
 pub mod Reading
 pub mod Exits
+pub mod Stops

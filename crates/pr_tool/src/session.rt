@@ -19,8 +19,8 @@ ghost use Rattle.pr_tool.specs.Rooms.{answer_body};
 ghost use Rattle.pr_tool.specs.Phases.{phase_of, IsAlive};
 ghost use Rattle.pr_tool.specs.Following.{Agrees, Follows, IsSound, Goes, fed};
 
-use crate::output::write_output;
 use crate::heads::{empty_head, reject_head, reply_head, sense_head, write_front};
+use crate::output::write_output;
 use pr_core::{CommandOut, Core};
 use pr_io::{Disk, Failed, Medium, Sink};
 use pr_link::{Deframer, Frame, Got};

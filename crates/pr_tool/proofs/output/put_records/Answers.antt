@@ -1,4 +1,4 @@
-use Rattle.std.proofs.Common.{◌≡◌, ◌≤◌, ◌+◌, ◌-◌, ℕ, List, take, drop, length, arith, subst}
+use Rattle.std.proofs.Common.{◌≡◌, ◌+◌, ◌-◌, ℕ, take, drop, arith, subst}
 use Rattle.pr_grammar.specs.Outputs.{output_record}
 use Rattle.pr_io.specs.Streams.{Put, PutSome}
 use Rattle.pr_io.proofs.Sent.{always_err}

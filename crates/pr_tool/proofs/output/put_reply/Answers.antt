@@ -1,4 +1,4 @@
-use Rattle.std.proofs.Common.{◌≡◌, ◌<◌, ℕ, List, take, drop, subst, arith}
+use Rattle.std.proofs.Common.{ℕ, List, subst, arith}
 use Rattle.std.specs.Prelude.{OnOk, OnErr}
 use Rattle.pr_io.specs.Streams.{Put, PutSome}
 use Rattle.pr_io.proofs.Pieces.{put_nothing}

@@ -1,0 +1,55 @@
+-- What one record of a schedule did, and why a run stops.
+use Rattle.std.specs.Prelude.{◌≡◌, ℕ, ◌≤◌, List, [], length, Option, Result, Ok, Err}
+use Rattle.pr_io.specs.Streams.{Took}
+use Rattle.pr_grammar.specs.Schedules.{Record, IsRecord, spelled_record}
+use Rattle.pr_model.specs.Lanes.{Lane}
+use Rattle.pr_model.specs.Runs.{RunsRecord, BeginsRecord}
+use Rattle.pr_core.specs.declared.target.Core.{Core}
+use Rattle.pr_tool.specs.Reading.{Stops}
+use Rattle.pr_tool.specs.Exits.{Ran}
+use Rattle.pr_tool.specs.declared.exit.Exit.{Exit}
+use Rattle.pr_tool.specs.declared.exit.Exit.TheVariants as exits
+use Rattle.pr_tool.specs.declared.schedule.End.{End}
+use Rattle.pr_tool.specs.declared.schedule.End.TheVariants.{Done, ReadFault, Broken, TooLong}
+use Rattle.pr_tool.specs.declared.replay.Stop.{Stop}
+use Rattle.pr_tool.specs.declared.replay.Stop.TheVariants as stop
+
+abbrev pub exit_at : End → ℕ → Exit
+exit_at Done place = exits.Done
+exit_at ReadFault place = exits.ReadFault
+exit_at Broken place = exits.BadSchedule place
+exit_at TooLong place = exits.TooLong
+
+-- the exit with which a run stops behind so many bytes of whole records
+abbrev pub exit_of : Stop → ℕ → Exit
+exit_of (stop.Read end) place = exit_at end place
+exit_of stop.Write place = exits.WriteFault
+
+-- a record that was read, and what it did on the lane
+pub record Did {M D : Type 0} (left : ℕ) (rest_old rest written_old written : Option (List ℕ)) (old : Core M D) (l : Lane) (new : Core M D) (m : Lane) (size : ℕ) : Type 0 where
+  pub first : Record
+  pub took : Took rest_old rest (spelled_record first)
+  pub valid : IsRecord 1 first
+  pub within : length (spelled_record first) ≤ left
+  pub ran : Ran (RunsRecord first) written_old written old l new m []
+  pub counted : size ≡ length (spelled_record first)
+  pub some : 4 ≤ size
+
+-- a record that was read, and began to act until a reply couldn't be written
+pub record Began {M D : Type 0} (left : ℕ) (rest_old rest written_old written : Option (List ℕ)) (old : Core M D) (l : Lane) (new : Core M D) : Type 0 where
+  pub first : Record
+  pub took : Took rest_old rest (spelled_record first)
+  pub valid : IsRecord 1 first
+  pub within : length (spelled_record first) ≤ left
+  pub last : Lane
+  pub lost : List ℕ
+  pub ran : Ran (BeginsRecord first) written_old written old l new last lost
+
+abbrev pub StopsBy : {M D : Type 0} → ℕ → Stop → Option (List ℕ) → Option (List ℕ) → Option (List ℕ) → Option (List ℕ) → Core M D → Lane → Core M D → Type 0
+StopsBy left (stop.Read end) ra rb wa wb old l new = Stops 1 left end ra rb × (wb ≡ wa)
+StopsBy left stop.Write ra rb wa wb old l new = Began left ra rb wa wb old l new
+
+-- what one record did, of so many bytes that may still be looked at, or why the run stops
+abbrev pub Does : {M D : Type 0} → ℕ → Result ℕ Stop → Option (List ℕ) → Option (List ℕ) → Option (List ℕ) → Option (List ℕ) → Core M D → Lane → Core M D → Lane → Type 0
+Does left (Ok size) ra rb wa wb old l new m = Did left ra rb wa wb old l new m size
+Does left (Err s) ra rb wa wb old l new m = StopsBy left s ra rb wa wb old l new
