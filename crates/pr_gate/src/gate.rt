@@ -1,8 +1,8 @@
 //! The calls of a gate.
-ghost use Rattle.std.specs.Prelude.{◌≡◌, ◌≢◌, ℕ, ◌≤◌, ◌+◌, ◌<◌, ◌-◌, [], ◌∷◌, ◌++◌, Some, None, IfOk, IfErr, IsSome, length};
+ghost use Rattle.std.specs.Prelude.{◌≡◌, ◌≢◌, ℕ, ◌≤◌, ◌+◌, ◌<◌, ◌-◌, ◌^◌, [], ◌∷◌, ◌++◌, Some, None, IfOk, IfErr, IsSome, length};
 ghost use Rattle.std.specs.Borrow.{sem};
 ghost use mathlib.Core.List.{IsPrefix};
-ghost use Rattle.pr_gate.specs.Entries.{ticket_limit, longer};
+ghost use Rattle.pr_gate.specs.Entries.{longer};
 ghost use Rattle.pr_gate.specs.Lending.{LendsValue};
 ghost use Rattle.pr_gate.specs.Passes.{IsOf, IsNoteOf, number_of, seen_of, own_of, ground_of, spare_of, IsFree, IsInside, noted_of, note_ground_of, IsSamePass, IsUnchanged, IsLeft};
 
@@ -50,7 +50,7 @@ impl<T: Stands> Gate<T> {
         requires { T.stands value [] }
         ensures pass { IfOk result (λ made. IsOf made.0 made.1 × IsFree made.1) }
         ensures lists { IfOk result (λ made. (seen_of made.1 ≡ []) × (own_of made.1 ≡ [])) }
-        ensures number { IfOk result (λ made. (number_of made.1 ≡ 0) × (spare_of made.1 ≡ ticket_limit)) }
+        ensures number { IfOk result (λ made. (number_of made.1 ≡ 0) × (spare_of made.1 ≡ 2 ^ 62)) }
         ensures ground { IfOk result (λ made. ground_of made.1 ≡ Some (T.ground value)) }
         ensures back { IfErr result (λ back. back ≡ value) }
     {
@@ -87,7 +87,7 @@ impl<T: Stands> Gate<T> {
         ensures number { number_of pass.new ≡ number_of pass.old }
         ensures other { IsFree result × (spare_of result ≡ 0) × (ground_of result ≡ ground_of pass.old) }
         ensures lists { (seen_of result ≡ seen_of pass.old) × (own_of result ≡ []) }
-        ensures new { number_of result + spare_of pass.old ≡ ticket_limit + 1 }
+        ensures new { number_of result + spare_of pass.old ≡ 2 ^ 62 + 1 }
         ensures differs { number_of result ≢ number_of pass.old }
     {
         let seat = another(&self.table.shared, &mut pass.seat);
@@ -112,7 +112,7 @@ impl<T: Stands> Gate<T> {
         ensures same { IsSamePass pass.old pass.new }
         ensures turn { IfOk result (λ turn. IsInside pass.new × T.stands turn.value (seen_of pass.new) × (ground_of pass.new ≡ Some (T.ground turn.value))) }
         ensures lists { IfOk result (λ _. IsPrefix (seen_of pass.old) (seen_of pass.new) × (own_of pass.new ≡ own_of pass.old)) }
-        ensures spent { IfErr result (λ spent. (ticket_limit ≤ spent.ticket) × IsUnchanged pass.old pass.new) }
+        ensures spent { IfErr result (λ spent. (2 ^ 62 ≤ spent.ticket) × IsUnchanged pass.old pass.new) }
     {
         if let Some(ticket) = permit(&self.table.shared, &mut pass.seat) {
             return Err(Spent { ticket });

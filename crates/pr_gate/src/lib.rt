@@ -20,6 +20,8 @@ mod pass;
 mod plays;
 mod stands;
 mod steps;
+#[cfg(test)]
+mod tests;
 mod view;
 
 pub use pass::{Gate, Note, Pass, Spent, Turn, Unreturned};

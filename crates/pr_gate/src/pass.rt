@@ -1,5 +1,5 @@
 //! The gate, and what its callers hold.
-ghost use Rattle.std.specs.Prelude.{◌≡◌, ◌+◌, ◌<◌, [], Some, None, IsSome, length};
+ghost use Rattle.std.specs.Prelude.{◌≡◌, ◌+◌, ◌^◌, ◌<◌, [], Some, None, IsSome, length};
 ghost use Rattle.pr_gate.specs.Entries.{own, NamesBelow};
 ghost use Rattle.pr_gate.specs.declared.view.Stage.TheVariants.{Idle};
 
@@ -37,7 +37,7 @@ pub struct Pass<T: Stands> {
     // How many entries it has seen.
     pub(crate) count: u64,
     ghost numbered: { seat.me.0.number ≡ Some number },
-    ghost spared: { next + seat.me.0.spare ≡ 4611686018427387905 },
+    ghost spared: { next + seat.me.0.spare ≡ 2 ^ 62 + 1 },
     ghost ordered: { number < next },
     ghost counted: { count ≡ length seat.me.0.seen },
     ghost grounded: { IsSome seat.me.0.ground },

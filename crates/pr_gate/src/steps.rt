@@ -1,7 +1,6 @@
 //! The single steps on a gate's table.
-ghost use Rattle.std.specs.Prelude.{◌≡◌, ℕ, ◌≤◌, ◌<◌, [], ◌∷◌, ◌++◌, Some, None, IsSome, true, MatchOption, MatchBool, length, ◌+◌, if◌then◌else◌, nat_lt};
+ghost use Rattle.std.specs.Prelude.{◌≡◌, ℕ, ◌≤◌, ◌^◌, ◌<◌, [], ◌∷◌, ◌++◌, Some, None, IsSome, true, MatchOption, MatchBool, length, ◌+◌, if◌then◌else◌, nat_lt};
 ghost use Rattle.pr_gate.specs.Rules.{elder, newer, noted, joined_view, Told, IsIn};
-ghost use Rattle.pr_gate.specs.Entries.{ticket_limit};
 ghost use Rattle.pr_gate.specs.Seats.{IsSized, IsSameSeat, IsIdle, IsServed};
 ghost use Rattle.pr_gate.specs.declared.view.Stage.TheVariants.{Idle, Permitted, Waiting, Inside};
 
@@ -19,7 +18,7 @@ pub(crate) fn permit<T: Stands>(board: &Board<T>, seat: &mut Place<T>) -> Option
     requires table { (seat.old.table_id ≡ board.now.table_id) × IsSized board.now.table_id }
     requires free { IsIdle seat.old }
     ensures same { IsSameSeat seat.old seat.new }
-    ensures ticket { MatchOption result (seat.new.me ≡ (record seat.old.me.0 { stage = Permitted }, [])) (λ n. (ticket_limit ≤ n) × (seat.new.me ≡ seat.old.me)) }
+    ensures ticket { MatchOption result (seat.new.me ≡ (record seat.old.me.0 { stage = Permitted }, [])) (λ n. (2 ^ 62 ≤ n) × (seat.new.me ≡ seat.old.me)) }
 {
     let ticket = board.load::<Permit>(seat, 0);
     if ticket >= TICKET_LIMIT {
