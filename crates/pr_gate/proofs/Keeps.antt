@@ -19,7 +19,7 @@ use Rattle.pr_gate.specs.declared.view.Stage.TheVariants.{Idle, Permitted, Waiti
 use Rattle.pr_gate.specs.Entries.{ticket_limit, own, NamesBelow}
 use Rattle.pr_gate.specs.Rules.{ticket_of, is_inside, permit, one_if, permits, passes, Fits, IsHome, Kept, permitted, drawn, IsIn, looked, first_view, made_in, published, Told, met, elder, newer, noted, joined_view, spent_view}
 use Rattle.pr_gate.specs.Passes.{Ends}
-use Rattle.pr_gate.proofs.Lists.{permits-set, passes-set, permits-snoc, passes-snoc, prefix-refl, prefix-longer, prefix_both, own-other, own-mine, own-between, at_snoc_place, below-more, below-prefix, below-snoc, own-none}
+use Rattle.pr_gate.proofs.Lists.{permits-set, passes-set, permits-snoc, passes-snoc, prefix-refl, prefix-longer, prefix_length, prefix_both, own-other, own-mine, own-between, at_snoc_place, below-more, below-prefix, below-snoc, own-none}
 
 false≢true' : false ≡ true → ⊥
 false≢true' e = subst (λ (b : Bool). cond b ⊥ (Unit {0})) e tt
@@ -47,6 +47,13 @@ wait_of _ = 0
 
 waits_inj : (t u : ℕ) → Waiting t ≡ Waiting u → t ≡ u
 waits_inj t u e = let k = ap wait_of e in omega arith
+
+abbrev turn_of : Stage → ℕ
+turn_of (Inside t) = t
+turn_of _ = 0
+
+inside_inj : (t u : ℕ) → Inside t ≡ Inside u → t ≡ u
+inside_inj t u e = ap turn_of e
 
 not_zero : (u : ℕ) → 0 ≡ suc u → ⊥
 not_zero u e = omega arith
@@ -275,6 +282,7 @@ module _ {T E G : Type 0} (number : E → ℕ) (ground_of : T → G) (stands : T
             names = below-more number (passes s.views) (ticket_limit + 1 - v.spare) r.history (room v.spare (passes s.views) r.made (λ l. (f.makes l).1)) r.names;
             shorter = λ _. (r.history, refl);
             own_seen = if_some (λ n p. p.1) v.number f.own_seen;
+            whole = λ u e. sym is ∙ inside_inj x u e;
           };
         },
       )
@@ -475,19 +483,19 @@ module _ {T E G : Type 0} (number : E → ℕ) (ground_of : T → G) (stands : T
       (λ j d _ _ g. more d g)
       (λ k e. absurd (none_some k e))
 
-  joined_fits : (s : St) (r : Rule s) (v w : V) → v.stage ≡ Idle → F r.history r.ticket (passes s.views) v → F r.history r.ticket (passes s.views) w → (b : Bool) → ltb (length v.seen) (length w.seen) ≡ b
+  joined_fits : (s : St) (r : Rule s) (v w : V) → F r.history r.ticket (passes s.views) v → F r.history r.ticket (passes s.views) w → (b : Bool) → ltb (length v.seen) (length w.seen) ≡ b
       → F r.history r.ticket (passes s.views) (record v { seen = cond b w.seen v.seen; also = cond b v.seen w.seen })
-  joined_fits s r v w idle f k true lt = let longer = ltb-true _ _ lt in record {
+  joined_fits s r v w f k true lt = let longer = ltb-true _ _ lt in record {
     same_ground = f.same_ground;
     seen = k.seen;
     also = f.seen;
     own_seen = if_some (λ n p. (p.0, p.1, own-between number n v.seen w.seen r.history v.mine (prefix_both v.seen w.seen r.history f.seen k.seen (omega arith)) k.seen p.2 p.1)) v.number f.own_seen;
     numbered = f.numbered;
     in_turn = f.in_turn;
-    inside = λ e. absurd (false≢true' (sym (ap is_inside idle) ∙ e));
+    inside = λ e. let all = ap length ((f.inside e).1) in let part = prefix_length w.seen r.history k.seen in absurd (omega arith);
     makes = f.makes;
   }
-  joined_fits s r v w idle f k false ge = record {
+  joined_fits s r v w f k false ge = record {
     same_ground = f.same_ground;
     seen = f.seen;
     also = k.seen;
@@ -498,18 +506,18 @@ module _ {T E G : Type 0} (number : E → ℕ) (ground_of : T → G) (stands : T
     makes = f.makes;
   }
 
-  pub joins_step : (id : ℕ) (v : V) (other : ℕ) (w : V) → v.stage ≡ Idle → w.number ≡ None → w.stage ≡ Idle → Joins Rule id v other w (joined_view v w) spent_view
-  joins_step id v other w idle anon resting s r at ne there =
+  pub joins_step : (id : ℕ) (v : V) (other : ℕ) (w : V) → w.number ≡ None → w.stage ≡ Idle → Joins Rule id v other w (joined_view v w) spent_view
+  joins_step id v other w anon resting s r at ne there =
       let both : V = joined_view v w in
       let before : get_elem? s.views other ≡ some w = sym (set_else s.views id other both ne) ∙ there in
-      let sum = permits-set s.views id v both at in let b : permit v.stage ≡ 0 = ap permit idle in
+      let sum = permits-set s.views id v both at in
       let limit = r.limit in
       let one = moved s r id v both at s.words s.homes r.history r.ticket r.words refl (omega arith) r.behind
-      (joined_fits s r v w idle (r.fits id v at) (r.fits other w before) (ltb (length v.seen) (length w.seen)) refl)
+      (joined_fits s r v w (r.fits id v at) (r.fits other w before) (ltb (length v.seen) (length w.seen)) refl)
       (λ j d _ _ g. g)
-      (λ t e. absurd (none_some t (ap ticket_of (sym idle) ∙ e)))
+      (λ t e j d apart here et. apart (r.alone j id d v here at t et e))
       r.names
-      (λ all. r.home (quiet s.views id v both at (ap is_inside idle) all)) in
+      (λ all. r.home (quiet s.views id v both at (all id both (set_here s.views id both (here_at s.views id v at))) all)) in
       let s1 : St = record { words = s.words; homes = s.homes; views = set s.views id both } in
       let gone : V = spent_view in
       let sum1 = permits-set s1.views other w gone there in let c : permit w.stage ≡ 0 = ap permit resting in
@@ -543,6 +551,7 @@ module _ {T E G : Type 0} (number : E → ℕ) (ground_of : T → G) (stands : T
             (below-more number (passes s.views) (ticket_limit + 1 - me.0.spare) r.history (room me.0.spare (passes s.views) r.made (λ l. (f.makes l).1)) r.names);
         shorter = λ le. prefix_both me.0.also me.0.seen r.history f.also f.seen le;
         own_seen = if_some (λ n p. p.2) me.0.number f.own_seen;
+        whole = λ u e. let now = f.inside (ap is_inside e) in ap length now.1 ∙ sym (some_inj u (length r.history) (sym (ap ticket_of e) ∙ now.0));
       },
     ),
   )
@@ -609,11 +618,11 @@ module _ {T E G : Type 0} (number : E → ℕ) (ground_of : T → G) (stands : T
         },
       )
 
-  pub lost : (id : ℕ) (v : V) (ws : List ℕ) (xs : List (Option (Held T E))) (t n : ℕ) → Final (Seen Rule id v) ws xs → get_elem? ws 0 ≡ some t → get_elem? ws 1 ≡ some n → t ≢ n → n < t
+  pub lost : (id : ℕ) (v : V) (ws : List ℕ) (xs : List (Option (Held T E))) (t n : ℕ) → Final (Seen Rule id v) ws xs → get_elem? ws 0 ≡ some t → get_elem? ws 1 ≡ some n → t ≢ n → (length v.seen ≤ n) × (n < t)
   lost id v ws xs t n (s, seen, words, _, _) at0 at1 ne =
-      let r = seen.0 in let behind = r.behind in
+      let r = seen.0 in let behind = r.behind in let long = prefix_length v.seen r.history ((r.fits id v seen.1).seen) in
       let a = word_0 r.ticket (length r.history) ws t (sym r.words ∙ words) at0 in
-      let b = word_1 r.ticket (length r.history) ws n (sym r.words ∙ words) at1 in omega arith
+      let b = word_1 r.ticket (length r.history) ws n (sym r.words ∙ words) at1 in (omega arith, omega arith)
 
 module _ {E G : Type 0} (number : E → ℕ) where
   -- what a step tells, in the words of a pass

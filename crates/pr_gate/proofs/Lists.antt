@@ -1,5 +1,5 @@
 -- Sums over the views, beginnings of lists, and the entries that name a number.
-use Rattle.std.proofs.Common.{◌≡◌, ℕ, zero, suc, ◌+◌, ◌<◌, ◌≤◌, eqb, List, [], ◌∷◌, ◌++◌, length, set, sym, refl, ap, ◌∙◌, subst, arith, cond, ◌⊎◌, inl, inr, ⊎_elim}
+use Rattle.std.proofs.Common.{◌≡◌, ℕ, zero, suc, ◌+◌, ◌<◌, ◌≤◌, Bool, true, false, eqb, ltb, ltb-true, List, [], ◌∷◌, ◌++◌, length, set, sym, refl, ap, ◌∙◌, subst, arith, cond, ◌⊎◌, inl, inr, ⊎_elim}
 use mathlib.Core.Option.{some, some-injective, some-ne-none}
 use mathlib.Core.List.{IsPrefix}
 use lib.ListN.{get_elem?}
@@ -7,7 +7,7 @@ use Rattle.std.proofs.lemmas.List.{append-nil, append_assoc, length-append}
 use Rattle.std.proofs.lemmas.Bool.{eq-eqb, ne_eqb}
 use Rattle.std.proofs.lemmas.List.Elements.{filter-append, All-nil, All-cons, All-head, All-tail, All-push, All-weaker}
 use Rattle.pr_gate.specs.declared.view.View.{View}
-use Rattle.pr_gate.specs.Entries.{own, NamesBelow}
+use Rattle.pr_gate.specs.Entries.{own, NamesBelow, longer}
 use Rattle.pr_gate.specs.Rules.{permit, permits, one_if, passes}
 
 module _ {E G : Type 0} where
@@ -60,6 +60,14 @@ module _ {E : Type 0} where
       let r = prefix_both xs ys zs (p.0, ap tail_of p.1) (q.0, ap tail_of q.1) (omega arith) in
       let same : x ≡ y = ap (head_of x) p.1 ∙ sym (ap (head_of x) q.1) in
       (r.0, λ i. same i ∷ r.1 i)
+
+  longer_by : (xs ys : List E) (b : Bool) → ltb (length xs) (length ys) ≡ b → length (cond b ys xs) ≡ length xs → cond b ys xs ≡ xs
+  longer_by xs ys true is e = let lt = ltb-true _ _ is in absurd (omega arith)
+  longer_by xs ys false is e = refl
+
+  -- the longer of two lists is the first, where it is no longer than that
+  pub longer_same : (xs ys : List E) → length (longer xs ys) ≡ length xs → longer xs ys ≡ xs
+  longer_same xs ys e = longer_by xs ys (ltb (length xs) (length ys)) refl e
 
   module _ (number : E → ℕ) where
     pub own-append : (n : ℕ) (xs ys : List E) → own number n (xs ++ ys) ≡ own number n xs ++ own number n ys

@@ -118,6 +118,7 @@ module _ {E G : Type 0} (number : E → ℕ) where
     pub names : NamesBelow number (ticket_limit + 1 - v.spare) v.seen
     pub shorter : length v.also ≤ length v.seen → IsPrefix v.also v.seen
     pub own_seen : IfSome v.number (λ n. own number n v.seen ≡ v.mine)
+    pub whole : (t : ℕ) → v.stage ≡ Inside t → length v.seen ≡ t
 
 abbrev Sat : Type 0 → Type 0 → Type 0 → Type 0
 Sat T E G = Me (Option (Held T E)) (View E G)

@@ -1,5 +1,5 @@
 -- What the steps see of a seat at a gate's table. All of this is this project's own.
-use Rattle.std.specs.Prelude.{◌≡◌, ℕ, [], ◌∷◌, Option, None, IsSome}
+use Rattle.std.specs.Prelude.{◌≡◌, ℕ, [], ◌∷◌, Option, None, IsSome, length}
 use Rattle.atomic_table.specs.Seated.{TableId}
 use Rattle.atomic_table.specs.declared.shared.Seat.{Seat}
 use Rattle.pr_gate.specs.declared.view.Held.{Held}
@@ -19,6 +19,6 @@ module _ {T E G : Type 0} where
   abbrev pub IsIdle : Seat (Option (Held T E)) (View E G) → Type 0
   IsIdle s = (s.me.0.stage ≡ Idle) × (s.me.1 ≡ []) × IsSome s.me.0.number
 
-  -- a seat with the turn, whose slot is empty (this project's own)
+  -- a seat with the turn of a ticket, which has seen as many entries, and whose slot is empty (this project's own)
   abbrev pub IsServed : Seat (Option (Held T E)) (View E G) → Type 0
-  IsServed s = ((t : ℕ) × (s.me.0.stage ≡ Inside t)) × (s.me.1 ≡ (0, None) ∷ [])
+  IsServed s = ((t : ℕ) × (s.me.0.stage ≡ Inside t) × (length s.me.0.seen ≡ t)) × (s.me.1 ≡ (0, None) ∷ [])

@@ -114,10 +114,11 @@ impl<T: Stands> Gate<T> {
         ensures lists { IfOk result (λ _. IsPrefix (seen_of pass.old) (seen_of pass.new) × (own_of pass.new ≡ own_of pass.old)) }
         ensures spent { IfErr result (λ spent. (2 ^ 62 ≤ spent.ticket) × IsUnchanged pass.old pass.new) }
     {
+        self.latch.lock(rt);
         if let Some(ticket) = permit(&self.table.shared, &mut pass.seat) {
+            self.latch.unlock();
             return Err(Spent { ticket });
         }
-        self.latch.lock(rt);
         let ticket = draw(&self.table.shared, &mut pass.seat);
         wait(&self.table.shared, rt, &mut pass.seat, ticket);
         pass.count = ticket;
@@ -149,22 +150,21 @@ impl<T: Stands> Gate<T> {
         ensures same { IsUnchanged pass.old pass.new }
         ensures note { IsNoteOf self.now result × (noted_of result ≡ seen_of pass.old) × (note_ground_of result ≡ ground_of pass.old) }
     {
+        let count = pass.count;
         let seat = note_of(&self.table.shared, &mut pass.seat);
-        Note {
-            seat,
-            count: pass.count,
-        }
+        Note { seat, count }
     }
 
     /// Lets the pass see what the note has seen too. Both are beginnings of one history, so the
-    /// longer of them has the other in it. The pass may not have a turn.
+    /// longer of them has the other in it. A pass that has a turn has seen all there is.
     pub fn meet(&self, pass: &mut Pass<T>, note: Note<T>)
         requires gate { IsOf self.now pass.old × IsNoteOf self.now note }
-        requires free { IsFree pass.old }
-        ensures same { IsSamePass pass.old pass.new × IsFree pass.new }
+        ensures same { IsSamePass pass.old pass.new }
         ensures seen { seen_of pass.new ≡ longer (seen_of pass.old) (noted_of note) }
         ensures begins { IsPrefix (seen_of pass.old) (seen_of pass.new) × IsPrefix (noted_of note) (seen_of pass.new) }
         ensures own { own_of pass.new ≡ own_of pass.old }
+        ensures free { IsFree pass.old → IsFree pass.new }
+        ensures inside { IsInside pass.old → IsInside pass.new × (seen_of pass.new ≡ seen_of pass.old) }
     {
         let Note { seat, count } = note;
         join(&self.table.shared, &mut pass.seat, seat);
@@ -180,7 +180,7 @@ impl<T: Stands> Gate<T> {
         T: Drop,
         requires gate { IsOf self pass }
         ensures value { IfOk result (λ value. IsLeft T.number T.ground T.stands pass value) }
-        ensures lost { IfErr result (λ lost. lost.serving < lost.ticket) }
+        ensures lost { IfErr result (λ lost. (length (seen_of pass) ≤ lost.serving) × (lost.serving < lost.ticket)) }
     {
         let Gate { table, latch: _ } = self;
         let Pass {

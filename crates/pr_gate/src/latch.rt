@@ -47,17 +47,9 @@ impl Latch {
 
     /// Waits until it is open, and shuts it.
     pub(crate) fn lock<R: Wait>(&self, rt: &R) {
-        for _ in 0..SPINS {
-            let found = self.table.shared.peek(0);
-            if found == OPEN && self.shut() {
-                return;
-            }
-            if found == WANTED {
-                break;
-            }
-            hint::spin_loop();
+        if !self.shut() {
+            self.wait(rt);
         }
-        self.sleep(rt);
     }
 
     pub(crate) fn unlock(&self) {
@@ -68,14 +60,31 @@ impl Latch {
         }
     }
 
-    fn sleep<R: Wait>(&self, rt: &R) {
+    fn wait<R: Wait>(&self, rt: &R) {
+        let mut found = self.spin();
+        if found == OPEN && self.shut() {
+            return;
+        }
         for _ in rt.forever() {
-            if self.want() {
+            if found != WANTED && self.want() {
                 return;
             }
             self.table.shared.park(rt, 0, WANTED as u32);
+            found = self.spin();
         }
         unreachable!()
+    }
+
+    // The word, once it is open or wanted or was looked at often enough.
+    fn spin(&self) -> u64 {
+        for _ in 0..SPINS {
+            let found = self.table.shared.peek(0);
+            if found != SHUT {
+                return found;
+            }
+            hint::spin_loop();
+        }
+        SHUT
     }
 
     // Whether it was open, and is now shut by this thread.

@@ -122,7 +122,6 @@ pub(crate) fn note_of<T: Stands>(board: &Board<T>, seat: &mut Place<T>) -> Place
 /// Joins a note with a pass.
 pub(crate) fn join<T: Stands>(board: &Board<T>, seat: &mut Place<T>, note: Place<T>)
     requires table { (seat.old.table_id ≡ board.now.table_id) × IsSized board.now.table_id }
-    requires idle { seat.old.me.0.stage ≡ Idle }
     requires note { (note.table_id ≡ board.now.table_id) × (note.me.1 ≡ []) × (note.me.0.number ≡ None) × (note.me.0.stage ≡ Idle) }
     ensures same { IsSameSeat seat.old seat.new × (seat.new.me ≡ (joined_view seat.old.me.0 note.me.0, seat.old.me.1)) }
     ensures told { Told T.number seat.new.me.0 }
