@@ -1,5 +1,5 @@
 -- What contracts see of a pass, of a note and of a gate. All of this is this project's own.
-use Rattle.std.specs.Prelude.{◌≡◌, ℕ, List, Option, Some}
+use Rattle.std.specs.Prelude.{◌≡◌, ℕ, ◌-◌, List, Option, Some}
 use mathlib.Core.List.{IsPrefix}
 use Rattle.pr_gate.specs.declared.view.View.{View}
 use Rattle.pr_gate.specs.declared.pass.Gate.{Gate}
@@ -60,6 +60,10 @@ module _ {T E G : Type 0} where
   -- the pass q is as p was (this project's own)
   abbrev pub IsUnchanged : {g : _} → Pass T E G g → Pass T E G g → Type 0
   IsUnchanged p q = IsSamePass p q × (q.seat.me ≡ p.seat.me)
+
+  -- q is the pass p after it made one more pass (this project's own)
+  abbrev pub HasMade : {g : _} → Pass T E G g → Pass T E G g → Type 0
+  HasMade p q = IsSameSeat p.seat q.seat × (q.number ≡ p.number) × (q.seat.me ≡ (record p.seat.me.0 { spare = p.seat.me.0.spare - 1 }, p.seat.me.1))
 
   -- the value stands for a history that begins with all that a view has seen and has no other entries of number n than the view's own, and it has the view's ground (this project's own)
   pub record Ends (number : E → ℕ) (ground : T → G) (stands : T → List E → Type 0) (n : ℕ) (v : View E G) (value : T) : Type 0 where

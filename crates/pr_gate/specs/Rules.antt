@@ -120,6 +120,7 @@ module _ {E G : Type 0} (number : E → ℕ) where
     pub own_seen : IfSome v.number (λ n. own number n v.seen ≡ v.mine)
     pub whole : (t : ℕ) → v.stage ≡ Inside t → length v.seen ≡ t
 
+-- a seat's view and the slots that it has taken (this project's own)
 abbrev Sat : Type 0 → Type 0 → Type 0 → Type 0
 Sat T E G = Me (Option (Held T E)) (View E G)
 

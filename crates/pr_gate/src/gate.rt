@@ -4,7 +4,7 @@ ghost use Rattle.std.specs.Borrow.{sem};
 ghost use mathlib.Core.List.{IsPrefix};
 ghost use Rattle.pr_gate.specs.Entries.{longer};
 ghost use Rattle.pr_gate.specs.Lending.{LendsValue};
-ghost use Rattle.pr_gate.specs.Passes.{IsOf, IsNoteOf, number_of, seen_of, own_of, ground_of, spare_of, IsFree, IsInside, noted_of, note_ground_of, IsSamePass, IsUnchanged, IsLeft};
+ghost use Rattle.pr_gate.specs.Passes.{IsOf, IsNoteOf, number_of, seen_of, own_of, ground_of, spare_of, IsFree, IsInside, noted_of, note_ground_of, IsSamePass, IsUnchanged, HasMade, IsLeft};
 
 use crate::latch::Latch;
 use crate::pass::{Gate, Note, Pass, Spent, Turn, Unreturned};
@@ -83,9 +83,9 @@ impl<T: Stands> Gate<T> {
         requires gate { IsOf self.now pass.old }
         requires spare { 0 < spare_of pass.old }
         ensures gate { IsOf self.now pass.new × IsOf self.now result }
-        ensures kept { pass.new.seat.me ≡ (record pass.old.seat.me.0 { spare = spare_of pass.old - 1 }, pass.old.seat.me.1) }
-        ensures number { number_of pass.new ≡ number_of pass.old }
-        ensures other { IsFree result × (spare_of result ≡ 0) × (ground_of result ≡ ground_of pass.old) }
+        ensures made { HasMade pass.old pass.new }
+        ensures free { IsFree result × (spare_of result ≡ 0) }
+        ensures ground { ground_of result ≡ ground_of pass.old }
         ensures lists { (seen_of result ≡ seen_of pass.old) × (own_of result ≡ []) }
         ensures new { number_of result + spare_of pass.old ≡ 2 ^ 62 + 1 }
         ensures differs { number_of result ≢ number_of pass.old }
@@ -110,8 +110,11 @@ impl<T: Stands> Gate<T> {
         requires gate { IsOf self.now pass.old }
         requires free { IsFree pass.old }
         ensures same { IsSamePass pass.old pass.new }
-        ensures turn { IfOk result (λ turn. IsInside pass.new × T.stands turn.value (seen_of pass.new) × (ground_of pass.new ≡ Some (T.ground turn.value))) }
-        ensures lists { IfOk result (λ _. IsPrefix (seen_of pass.old) (seen_of pass.new) × (own_of pass.new ≡ own_of pass.old)) }
+        ensures inside { IfOk result (λ _. IsInside pass.new) }
+        ensures value { IfOk result (λ turn. T.stands turn.value (seen_of pass.new)) }
+        ensures ground { IfOk result (λ turn. ground_of pass.new ≡ Some (T.ground turn.value)) }
+        ensures begins { IfOk result (λ _. IsPrefix (seen_of pass.old) (seen_of pass.new)) }
+        ensures own { IfOk result (λ _. own_of pass.new ≡ own_of pass.old) }
         ensures spent { IfErr result (λ spent. (2 ^ 62 ≤ spent.ticket) × IsUnchanged pass.old pass.new) }
     {
         self.latch.lock(rt);
@@ -127,14 +130,16 @@ impl<T: Stands> Gate<T> {
     }
 
     /// Gives the value back, changed by the one entry `made`, and ends the turn. The entry is then
-    /// published: each later turn of any thread has it.
+    /// published: each later turn of any thread has it. It wakes another thread only where one may
+    /// sleep.
     pub fn leave(&self, pass: &mut Pass<T>, turn: Turn<T>, made: T::Entry)
         requires gate { IsOf self.now pass.old }
         requires inside { IsInside pass.old }
         requires ground { ground_of pass.old ≡ Some (T.ground turn.value) }
         requires number { T.number made ≡ number_of pass.old }
         requires stands { T.stands turn.value (seen_of pass.old ++ made ∷ []) }
-        ensures same { IsSamePass pass.old pass.new × IsFree pass.new }
+        ensures same { IsSamePass pass.old pass.new }
+        ensures free { IsFree pass.new }
         ensures seen { seen_of pass.new ≡ seen_of pass.old ++ made ∷ [] }
         ensures own { own_of pass.new ≡ own_of pass.old ++ made ∷ [] }
     {
@@ -148,7 +153,9 @@ impl<T: Stands> Gate<T> {
     pub fn note(&self, pass: &mut Pass<T>) -> Note<T>
         requires gate { IsOf self.now pass.old }
         ensures same { IsUnchanged pass.old pass.new }
-        ensures note { IsNoteOf self.now result × (noted_of result ≡ seen_of pass.old) × (note_ground_of result ≡ ground_of pass.old) }
+        ensures gate { IsNoteOf self.now result }
+        ensures note { noted_of result ≡ seen_of pass.old }
+        ensures ground { note_ground_of result ≡ ground_of pass.old }
     {
         let count = pass.count;
         let seat = note_of(&self.table.shared, &mut pass.seat);
@@ -161,10 +168,12 @@ impl<T: Stands> Gate<T> {
         requires gate { IsOf self.now pass.old × IsNoteOf self.now note }
         ensures same { IsSamePass pass.old pass.new }
         ensures seen { seen_of pass.new ≡ longer (seen_of pass.old) (noted_of note) }
-        ensures begins { IsPrefix (seen_of pass.old) (seen_of pass.new) × IsPrefix (noted_of note) (seen_of pass.new) }
+        ensures begins { IsPrefix (seen_of pass.old) (seen_of pass.new) }
+        ensures noted { IsPrefix (noted_of note) (seen_of pass.new) }
         ensures own { own_of pass.new ≡ own_of pass.old }
         ensures free { IsFree pass.old → IsFree pass.new }
-        ensures inside { IsInside pass.old → IsInside pass.new × (seen_of pass.new ≡ seen_of pass.old) }
+        ensures inside { IsInside pass.old → IsInside pass.new }
+        ensures whole { IsInside pass.old → seen_of pass.new ≡ seen_of pass.old }
     {
         let Note { seat, count } = note;
         join(&self.table.shared, &mut pass.seat, seat);

@@ -27,7 +27,9 @@ pub struct Gate<T: Stands> {
 
 /// The right to turns, what its owner has seen of the history, and which entries are its own.
 ///
-/// A pass belongs to the gate that it came from, and one thread at a time uses it.
+/// A pass belongs to the gate that it came from, and one thread at a time uses it. Of every pass
+/// holds: its own entries are just those of what it has seen that name its number, each once and
+/// in order, and each entry that it has seen names a number that was given.
 #[derive(Drop)]
 pub struct Pass<T: Stands> {
     pub(crate) seat: Place<T>,
@@ -37,6 +39,7 @@ pub struct Pass<T: Stands> {
     // How many entries it has seen.
     pub(crate) count: u64,
     ghost numbered: { seat.me.0.number ≡ Some number },
+    // The passes made so far have the numbers below the next one; there can be 2^62 + 1.
     ghost spared: { next + seat.me.0.spare ≡ 2 ^ 62 + 1 },
     ghost ordered: { number < next },
     ghost counted: { count ≡ length seat.me.0.seen },
