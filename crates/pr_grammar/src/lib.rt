@@ -1,9 +1,14 @@
 //! Every byte layout of the project, as a value and its spelling.
 //!
-//! The definitions stand in `specs/`; the crates that read and write the layouts cite them.
+//! The definitions stand in `specs/`; the crates that read and write the layouts cite them, and hand on the plain types
+//! that stand here because the definitions speak of them too.
 #![tactic(auto)]
 
 ghost use Rattle.pr_grammar.specs.Laws.{Becomes, NeverBecomes};
+
+mod sense;
+
+pub use sense::SenseFault;
 
 /// The definitions are all: there is no code here but laws.
 pub fn definitions() {}
