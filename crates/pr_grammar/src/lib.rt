@@ -6,8 +6,10 @@
 
 ghost use Rattle.pr_grammar.specs.Laws.{Becomes, NeverBecomes};
 
+mod cdb;
 mod sense;
 
+pub use cdb::{Cdb, CdbFault, Class, Command};
 pub use sense::SenseFault;
 
 /// The definitions are all: there is no code here but laws.
