@@ -5,26 +5,60 @@ pub enum Command {
     /// 00h.
     TestUnitReady,
     /// 03h. `descriptor` is DESC; `allocation` counts bytes.
-    RequestSense { descriptor: bool, allocation: u8 },
+    RequestSense {
+        descriptor: bool,
+        allocation: u8,
+    },
     /// 12h. `vital` is EVPD; `allocation` counts bytes.
-    Inquiry { vital: bool, page: u8, allocation: u16 },
+    Inquiry {
+        vital: bool,
+        page: u8,
+        allocation: u16,
+    },
     /// 25h.
     ReadCapacity10,
     /// 9Eh, SERVICE ACTION IN(16). `action` is the service action, 5 bits; `allocation` counts bytes.
-    ReadCapacity16 { action: u8, allocation: u32 },
+    ReadCapacity16 {
+        action: u8,
+        allocation: u32,
+    },
     /// A0h. `select` is SELECT REPORT; `allocation` counts bytes.
-    ReportLuns { select: u8, allocation: u32 },
+    ReportLuns {
+        select: u8,
+        allocation: u32,
+    },
     /// 28h, or 88h where it is `wide`. `protect` is RDPROTECT, 3 bits; `count` counts blocks.
-    Read { wide: bool, protect: u8, lba: u64, count: u32 },
+    Read {
+        wide: bool,
+        protect: u8,
+        lba: u64,
+        count: u32,
+    },
     /// 2Ah, or 8Ah where it is `wide`. `protect` is WRPROTECT, 3 bits; `count` counts blocks.
-    Write { wide: bool, protect: u8, lba: u64, count: u32 },
+    Write {
+        wide: bool,
+        protect: u8,
+        lba: u64,
+        count: u32,
+    },
     /// 35h. `count` counts blocks.
-    SynchronizeCache { lba: u32, count: u16 },
+    SynchronizeCache {
+        lba: u32,
+        count: u16,
+    },
     /// 5Eh. `action` is the service action, 5 bits; `allocation` counts bytes.
-    ReserveIn { action: u8, allocation: u16 },
+    ReserveIn {
+        action: u8,
+        allocation: u16,
+    },
     /// 5Fh. `action` is the service action, 5 bits; `scope` and `kind` have 4 bits; `length` is that of the parameter
     /// list in bytes.
-    ReserveOut { action: u8, scope: u8, kind: u8, length: u32 },
+    ReserveOut {
+        action: u8,
+        scope: u8,
+        kind: u8,
+        length: u32,
+    },
 }
 
 /// A command descriptor block (SPC-4): its command, and the NACA bit of its control byte.

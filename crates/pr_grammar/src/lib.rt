@@ -7,9 +7,11 @@
 ghost use Rattle.pr_grammar.specs.Laws.{Becomes, NeverBecomes};
 
 mod cdb;
+mod param;
 mod sense;
 
 pub use cdb::{Cdb, CdbFault, Class, Command};
+pub use param::{Capabilities, FullEntry, Held, OutList, ParamFault, ReplyFault};
 pub use sense::SenseFault;
 
 /// The definitions are all: there is no code here but laws.
