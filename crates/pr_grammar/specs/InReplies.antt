@@ -124,25 +124,31 @@ abbrev pub keys_from : ℕ → List ℕ → List Key
 keys_from zero bytes = []
 keys_from (suc n) bytes = record { 0 = number64_at bytes 0 } ∷ keys_from n (drop 8 bytes)
 
--- ADDITIONAL LENGTH is a multiple of 8
+-- by ADDITIONAL LENGTH, which is a multiple of 8
+abbrev pub keys_sized : ℕ → List ℕ → Result KeyList ReplyFault
+keys_sized n bytes =
+    if not (n % 8 == 0) then Err (BadLength 4 n) else
+    if nat_lt (length bytes) (8 + n) then Err (Cut (length bytes)) else
+    Ok (record { generation = number32_at bytes 0; keys = keys_from (n / 8) (drop 8 bytes) })
+
 abbrev pub read_keys : List ℕ → Result KeyList ReplyFault
 read_keys bytes =
-    if nat_lt (length bytes) 8 then Err (Cut (length bytes)) else
-    if not (number32_at bytes 4 % 8 == 0) then Err (BadLength 4 (number32_at bytes 4)) else
-    if nat_lt (length bytes) (8 + number32_at bytes 4) then Err (Cut (length bytes)) else
-    Ok (record { generation = number32_at bytes 0; keys = keys_from (number32_at bytes 4 / 8) (drop 8 bytes) })
+    if nat_lt (length bytes) 8 then Err (Cut (length bytes)) else keys_sized (number32_at bytes 4) bytes
 
--- ADDITIONAL LENGTH is 0 where none is held, else 10h
-abbrev pub read_reservation : List ℕ → Result Held ReplyFault
-read_reservation bytes =
-    if nat_lt (length bytes) 8 then Err (Cut (length bytes)) else
-    if number32_at bytes 4 == 0 then Ok (record { generation = number32_at bytes 0; held = None }) else
-    if not (number32_at bytes 4 == 16) then Err (BadLength 4 (number32_at bytes 4)) else
+-- by ADDITIONAL LENGTH, which is 0 where none is held, else 10h
+abbrev pub reservation_sized : ℕ → List ℕ → Result Held ReplyFault
+reservation_sized n bytes =
+    if n == 0 then Ok (record { generation = number32_at bytes 0; held = None }) else
+    if not (n == 16) then Err (BadLength 4 n) else
     if nat_lt (length bytes) 24 then Err (Cut (length bytes)) else
     Ok (record {
       generation = number32_at bytes 0;
       held = Some (record { 0 = number64_at bytes 8 }, slice_index bytes 21);
     })
+
+abbrev pub read_reservation : List ℕ → Result Held ReplyFault
+read_reservation bytes =
+    if nat_lt (length bytes) 8 then Err (Cut (length bytes)) else reservation_sized (number32_at bytes 4) bytes
 
 -- the length in the first two bytes is 8
 abbrev pub read_capabilities : List ℕ → Result Capabilities ReplyFault
@@ -180,18 +186,20 @@ first_odd (suc n) place bytes =
     Some (BadLength (place + 20) (number32_at bytes (place + 20)))
 
 -- the descriptors are looked at once ADDITIONAL LENGTH is right
-abbrev pub read_entries : Option ReplyFault → ℕ → List ℕ → Result FullList ReplyFault
-read_entries (Some fault) n bytes = Err fault
-read_entries None n bytes =
+abbrev pub entries_sized : Option ReplyFault → ℕ → List ℕ → Result FullList ReplyFault
+entries_sized (Some fault) n bytes = Err fault
+entries_sized None n bytes =
     if nat_lt (length bytes) (8 + n) then Err (Cut (length bytes)) else
     Ok (record { generation = number32_at bytes 0; entries = entries_from (n / 48) (drop 8 bytes) })
 
--- ADDITIONAL LENGTH is a multiple of 48, and each ADDITIONAL DESCRIPTOR LENGTH is 24 (this project's own profile)
+-- by ADDITIONAL LENGTH, which is a multiple of 48; each ADDITIONAL DESCRIPTOR LENGTH is 24 (this project's own profile)
+abbrev pub full_sized : ℕ → List ℕ → Result FullList ReplyFault
+full_sized n bytes =
+    if not (n % 48 == 0) then Err (BadLength 4 n) else entries_sized (first_odd (n / 48) 8 bytes) n bytes
+
 abbrev pub read_full : List ℕ → Result FullList ReplyFault
 read_full bytes =
-    if nat_lt (length bytes) 8 then Err (Cut (length bytes)) else
-    if not (number32_at bytes 4 % 48 == 0) then Err (BadLength 4 (number32_at bytes 4)) else
-    read_entries (first_odd (number32_at bytes 4 / 48) 8 bytes) (number32_at bytes 4) bytes
+    if nat_lt (length bytes) 8 then Err (Cut (length bytes)) else full_sized (number32_at bytes 4) bytes
 
 -- What a reader finds in a reply of a standing
 

@@ -1,5 +1,5 @@
 -- Fields laid one behind the other.
-use Rattle.std.proofs.Common.{◌≡◌, ℕ, ◌+◌, ◌-◌, ◌<◌, ◌≤◌, min, List, [], ◌∷◌, ◌++◌, length, take, drop, refl, ap, sym, ◌∙◌, subst, arith, rules}
+use Rattle.std.proofs.Common.{◌≡◌, ℕ, ◌+◌, ◌-◌, ◌<◌, ◌≤◌, min, List, [], ◌∷◌, ◌++◌, length, take, drop, ap, sym, ◌∙◌, arith}
 use Rattle.std.proofs.lemmas.List.{take_min, drop_min, length-append, length-take, length-drop}
 use Rattle.std.proofs.lemmas.Grind.{common_steps}
 use borrow.Rule.Slice.PartMut.{put_mid}

@@ -1,10 +1,10 @@
 -- A reply's head, and a piece of one size for each registration.
-use Rattle.std.proofs.Common.{◌≡◌, ℕ, suc, ◌+◌, ◌-◌, ◌*◌, ◌<◌, ◌≤◌, min, List, [], ◌∷◌, ◌++◌, length, take, drop, refl, ap, sym, ◌∙◌, subst, arith, rules, get_or, append_assoc, ◌⊎◌, inl, inr}
-use Rattle.std.specs.Prelude.{slice_get, Option, Some, None}
+use Rattle.std.proofs.Common.{◌≡◌, ℕ, ◌+◌, ◌*◌, ◌<◌, ◌≤◌, List, [], ◌∷◌, ◌++◌, length, take, drop, ap, sym, ◌∙◌, arith, get_or, append_assoc, ◌⊎◌, inl, inr}
+use Rattle.std.specs.Prelude.{slice_get, Some}
 use Rattle.std.specs.List.{flat_map}
-use Rattle.std.proofs.lemmas.List.{length-append, length-take, length-drop, take-append-le, take-append-drop, drop_all, length-take-le, take_more, flat_map_more, append-nil}
+use Rattle.std.proofs.lemmas.List.{length-append, take-append-le, take-append-drop, drop_all, length-take-le, take_more, flat_map_more, append-nil}
 use Rattle.std.proofs.lemmas.Option.{get_or_from_slice_get, slice_get_within}
-use Rattle.std.proofs.lemmas.Grind.{common_steps, flat_map-append}
+use Rattle.std.proofs.lemmas.Grind.{flat_map-append}
 use Rattle.pr_param.specs.Laid.{laid}
 
 pub length_pieces : {X : Type 0} (f : X → List ℕ) (k : ℕ) → ((x : X) → length (f x) ≡ k) → (xs : List X) → length (flat_map f xs) ≡ k * length xs

@@ -1,5 +1,5 @@
 -- The registration in the next place has the nexus, or it is passed.
-use Rattle.std.proofs.Common.{◌≡◌, ap, sym, ◌∙◌, arith, rules}
+use Rattle.std.proofs.Common.{ap, sym, ◌∙◌, arith}
 use Rattle.std.proofs.lemmas.List.{drop_all}
 use Rattle.pr_grammar.specs.InReplies.{key_at}
 use Rattle.pr_param.proofs.Holders.{key_here, key_past}

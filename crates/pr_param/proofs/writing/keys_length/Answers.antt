@@ -1,5 +1,5 @@
 -- Every piece has one length.
-use Rattle.std.proofs.Common.{refl, arith, rules}
+use Rattle.std.proofs.Common.{refl, arith}
 use Rattle.pr_grammar.specs.InReplies.{key_bytes}
 use Rattle.pr_param.proofs.Pieces.{length_pieces}
 use Rattle.pr_param.proofs.writing.keys_length.Goals as goal

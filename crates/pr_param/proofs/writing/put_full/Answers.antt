@@ -1,9 +1,8 @@
 -- The loop puts one descriptor more, and ends where the buffer does.
-use Rattle.std.proofs.Common.{◌≡◌, ◌≤◌, ◌+◌, ◌*◌, ◌++◌, ℕ, List, length, take, refl, ap, sym, ◌∙◌, arith, rules}
+use Rattle.std.proofs.Common.{◌≤◌, ◌*◌, ◌++◌, ℕ, List, length, take, refl, ◌∙◌, rules}
 use Rattle.std.specs.List.{flat_map}
 use Rattle.std.specs.Int.{w32, to_be_bytes}
 use Rattle.pr_grammar.specs.InReplies.{descriptor, kind_held, one_holder}
-use Rattle.pr_param.specs.Laid.{laid}
 use Rattle.pr_param.proofs.Pieces.{front_covers, put_more, laid_front}
 use Rattle.pr_param.proofs.writing.put_full.Goals as goal
 

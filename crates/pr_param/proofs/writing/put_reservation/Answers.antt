@@ -1,5 +1,5 @@
 -- A reservation of one nexus has that nexus's key.
-use Rattle.std.proofs.Common.{◌≡◌, ◌++◌, length, take, ap, sym, ◌∙◌, arith, rules}
+use Rattle.std.proofs.Common.{◌++◌, length, take, ap, sym, ◌∙◌}
 use Rattle.std.specs.Int.{w32, to_be_bytes}
 use Rattle.pr_grammar.specs.InReplies.{held_bytes}
 use Rattle.pr_param.proofs.Holders.{part_of_one}
