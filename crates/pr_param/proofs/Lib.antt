@@ -2,3 +2,4 @@ pub mod Cuts
 pub mod Pieces
 pub mod Holders
 pub mod Readings
+pub mod RoundTrips

@@ -1,6 +1,6 @@
-ghost use Rattle.std.specs.Prelude.{◌≡◌, ◌≤◌, ◌+◌, ◌∷◌, [], ◌++◌, length, take, drop, min};
+ghost use Rattle.std.specs.Prelude.{◌≡◌, ◌≤◌, ◌+◌, ◌∷◌, [], ◌++◌, Ok, length, take, drop, min};
 ghost use Rattle.std.specs.Int.{w32, to_be_bytes};
-ghost use Rattle.pr_grammar.specs.InReplies.{keys_reply, reservation_reply, capabilities_reply, full_reply, held_bytes, key_at as spec_key_at, descriptor as spec_descriptor, holds as spec_holds, held_code as spec_held_code};
+ghost use Rattle.pr_grammar.specs.InReplies.{FitsFields, read_keys, read_reservation, read_capabilities, read_full, listed_keys, told_reservation, told_capabilities, listed_entries, keys_reply, reservation_reply, capabilities_reply, full_reply, held_bytes, key_at as spec_key_at, descriptor as spec_descriptor, holds as spec_holds, held_code as spec_held_code};
 ghost use Rattle.pr_grammar.specs.Cdbs.{bit};
 
 use crate::put::{put, put_head};
@@ -15,6 +15,7 @@ pub fn write_keys<R: Registrants>(from: &R, allocation: usize, out: &mut [u8]) -
     ensures len { result ≡ min allocation (length (keys_reply (R.standing from.now))) }
     ensures written { take result out.new ≡ take result (keys_reply (R.standing from.now)) }
     ensures rest { drop result out.new ≡ drop result out.old }
+    ensures reads_back { FitsFields (R.standing from.now) → length (keys_reply (R.standing from.now)) ≤ allocation → read_keys (take result out.new) ≡ Ok (listed_keys (R.standing from.now)) }
 {
     let len = allocation.min(keys_length(from));
     put_keys(from, &mut out[..len]);
@@ -29,6 +30,7 @@ pub fn write_reservation<R: Registrants>(from: &R, allocation: usize, out: &mut 
     ensures len { result ≡ min allocation (length (reservation_reply (R.standing from.now))) }
     ensures written { take result out.new ≡ take result (reservation_reply (R.standing from.now)) }
     ensures rest { drop result out.new ≡ drop result out.old }
+    ensures reads_back { FitsFields (R.standing from.now) → length (reservation_reply (R.standing from.now)) ≤ allocation → read_reservation (take result out.new) ≡ Ok (told_reservation (R.standing from.now)) }
 {
     let len = allocation.min(reservation_length(from));
     put_reservation(from, &mut out[..len]);
@@ -42,6 +44,7 @@ pub fn write_capabilities<R: Registrants>(from: &R, allocation: usize, out: &mut
     ensures len { result ≡ min allocation (length (capabilities_reply (R.standing from.now))) }
     ensures written { take result out.new ≡ take result (capabilities_reply (R.standing from.now)) }
     ensures rest { drop result out.new ≡ drop result out.old }
+    ensures reads_back { FitsFields (R.standing from.now) → length (capabilities_reply (R.standing from.now)) ≤ allocation → read_capabilities (take result out.new) ≡ Ok (told_capabilities (R.standing from.now)) }
 {
     let len = allocation.min(8);
     put_capabilities(from.preserve(), &mut out[..len]);
@@ -56,6 +59,7 @@ pub fn write_full<R: Registrants>(from: &R, allocation: usize, out: &mut [u8]) -
     ensures len { result ≡ min allocation (length (full_reply (R.standing from.now))) }
     ensures written { take result out.new ≡ take result (full_reply (R.standing from.now)) }
     ensures rest { drop result out.new ≡ drop result out.old }
+    ensures reads_back { FitsFields (R.standing from.now) → length (full_reply (R.standing from.now)) ≤ allocation → read_full (take result out.new) ≡ Ok (listed_entries (R.standing from.now)) }
 {
     let len = allocation.min(full_length(from));
     put_full(from, &mut out[..len]);
