@@ -28,7 +28,7 @@ impl<'a> Full<'a> {
     ghost use Rattle.pr_grammar.specs.InReplies.{entries_from as spec_from};
 
     /// Descriptors in the first bytes of a slice.
-    pub fn new(generation: u32, count: usize, descriptors: &'a [u8]) -> Full<'a>
+    pub(crate) fn new(generation: u32, count: usize, descriptors: &'a [u8]) -> Full<'a>
         requires { 48 * count ≤ length descriptors.now }
         ensures { result ≡ record { generation = generation; entries = spec_from count descriptors.now } }
     {

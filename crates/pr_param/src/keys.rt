@@ -26,7 +26,7 @@ impl<'a> Keys<'a> {
     ghost use Rattle.pr_grammar.specs.InReplies.{keys_from as spec_from};
 
     /// Keys in the first bytes of a slice.
-    pub fn new(generation: u32, count: usize, keys: &'a [u8]) -> Keys<'a>
+    pub(crate) fn new(generation: u32, count: usize, keys: &'a [u8]) -> Keys<'a>
         requires { 8 * count ≤ length keys.now }
         ensures { result ≡ record { generation = generation; keys = spec_from count keys.now } }
     {

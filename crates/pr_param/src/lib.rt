@@ -16,3 +16,6 @@ pub use pr_grammar::{Capabilities, FullEntry, Held, OutList, ParamFault, ReplyFa
 pub use reading::{read_capabilities, read_full, read_keys, read_reservation};
 pub use registrants::Registrants;
 pub use writing::{write_capabilities, write_full, write_keys, write_reservation};
+
+#[cfg(test)]
+mod tests;

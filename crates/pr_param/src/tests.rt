@@ -1,0 +1,3 @@
+mod listed;
+mod lists;
+mod replies;
