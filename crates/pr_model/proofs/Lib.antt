@@ -2,3 +2,17 @@ pub mod HistoryLaws
 pub mod RunLaws
 pub mod Outputs
 pub mod Overflow
+pub mod Waiting
+pub mod Orders
+pub mod Filters
+pub mod Places
+pub mod Ascending
+pub mod Changes
+pub mod Looks
+pub mod Puts
+pub mod Holders
+pub mod Cases
+pub mod Rules
+pub mod Outcomes
+pub mod WellFormed
+pub mod SameKept

@@ -1,12 +1,12 @@
 -- Unit attention conditions (SAM-5): a list for each nexus, the one that is reported first in front.
-use Rattle.std.specs.Prelude.{◌==◌, ◌&&◌, ◌++◌, ◌∷◌, [], not, Bool, List, Option, Some, None, if◌then◌else◌}
-use Rattle.std.specs.List.{list_any}
+use Rattle.std.specs.Prelude.{◌≡◌, true, ◌==◌, ◌&&◌, ◌++◌, ◌∷◌, [], not, Bool, List, Option, Some, None, if◌then◌else◌}
+use Rattle.std.specs.List.{list_any, All, IsDistinct}
 use Rattle.pr_words.specs.declared.nexus.Nexus.{Nexus}
 use Rattle.pr_words.specs.declared.nexus.Pair.{Pair}
 use Rattle.pr_words.specs.declared.code.Code.{Code}
 use Rattle.pr_words.specs.Orders.{same_nexus}
 use Rattle.pr_grammar.specs.Standings.{is_registered}
-use Rattle.pr_model.specs.Acts.{Acted}
+use Rattle.pr_model.specs.Acts.{Acted, cleared, released, preempted}
 
 -- POWER ON, RESET, OR BUS DEVICE RESET OCCURRED
 abbrev pub powered_on : Code
@@ -35,3 +35,15 @@ is_other caller ps n = is_registered ps n && not (same_nexus n caller)
 abbrev pub told : Nexus → Acted → (Nexus → List Code) → Nexus → List Code
 told caller a lists =
     raised_any (is_other caller a.standing.pairs) a.stay_code (raised_any (is_other caller a.removed) a.removed_code lists)
+
+-- the unit attention conditions that this target establishes
+abbrev pub attention_codes : List Code
+attention_codes = powered_on ∷ cleared ∷ released ∷ preempted ∷ []
+
+abbrev pub is_attention : Code → Bool
+is_attention c = list_any (same_code c) attention_codes
+
+-- a list of them, each at most once
+pub record AreAttentions (cs : List Code) : Type 0 where
+  pub distinct : IsDistinct same_code cs
+  pub known : All (λ c. is_attention c ≡ true) cs

@@ -2,6 +2,9 @@ pub mod Limits
 pub mod Registrants
 pub mod Acts
 pub mod Keeping
+pub mod Places
+pub mod Cases
+pub mod Effects
 pub mod Attentions
 pub mod Worlds
 pub mod Entries

@@ -1,13 +1,58 @@
 //! What the target may do: worlds, histories, sessions and runs.
 //!
-//! The definitions stand in `specs/`; every contract above cites them. The functions have no code:
-//! their contracts are laws of the definitions.
+//! The definitions stand in `specs/`; every contract above cites them. There is no code here: each
+//! function is a law of the definitions, and says it in its contract.
 #![tactic(auto)]
 
+ghost use Rattle.std.specs.Prelude.{◌≡◌, ℕ, ◌≤◌, not, true};
+ghost use Rattle.pr_words.specs.declared.nexus.Nexus.{Nexus};
+ghost use Rattle.pr_grammar.specs.Standings.{Standing};
+ghost use Rattle.pr_model.specs.Registrants.{IsAscending, IsWellFormed};
+ghost use Rattle.pr_model.specs.Acts.{Acted, ReserveOut, acted, preempt};
+ghost use Rattle.pr_model.specs.Cases.{Case, Applies, Preempts};
+ghost use Rattle.pr_model.specs.Effects.{Rule, IsRule, Acts};
 ghost use Rattle.pr_model.specs.Laws.{BytesWait};
+ghost use Rattle.pr_model.specs.Keeping.{Kept, kept, same_kept, keeps_by, looks_same, same_reservation};
+
+/// Of each PREEMPT exactly one case applies, and it has exactly one answer, which `preempt` is.
+#[tactic(auto, using(crate::proofs::Cases::alone, crate::proofs::Cases::preempts, crate::proofs::Cases::one_answer))]
+pub fn preempt_has_one_case()
+    ensures alone { (s : Standing) (k : ℕ) (c d : Case) → Applies s k c → Applies s k d → c ≡ d }
+    ensures some { (s : Standing) (n : Nexus) (scope kind k : ℕ) → Preempts s n scope kind k (preempt s n scope kind k) }
+    ensures one { (s : Standing) (n : Nexus) (scope kind k : ℕ) (a : Acted) → Preempts s n scope kind k a → a ≡ preempt s n scope kind k }
+{}
+
+/// Of each PERSISTENT RESERVE OUT exactly one rule applies, and it has exactly one answer, which
+/// `acted` is.
+#[tactic(auto, using(crate::proofs::Rules::one_rule, crate::proofs::Rules::acts, crate::proofs::Rules::one_act))]
+pub fn reserve_out_has_one_rule()
+    ensures alone { (limit : ℕ) (s : Standing) (n : Nexus) (o : ReserveOut) (r t : Rule) → IsRule limit s n o r → IsRule limit s n o t → r ≡ t }
+    ensures some { (limit : ℕ) (s : Standing) (n : Nexus) (o : ReserveOut) → o.action ≤ 6 → Acts limit s n o (acted limit s n o) }
+    ensures one { (limit : ℕ) (s : Standing) (n : Nexus) (o : ReserveOut) (a : Acted) → Acts limit s n o a → a ≡ acted limit s n o }
+{}
+
+/// Registrants stay well formed: within the limit, in order, with keys other than zero, and each
+/// reservation holder registered.
+#[tactic(auto, using(crate::proofs::WellFormed::well_formed))]
+pub fn registrants_stay_well_formed()
+    ensures { (limit : ℕ) (s : Standing) (n : Nexus) (o : ReserveOut) → IsWellFormed limit s → IsWellFormed limit (acted limit s n o).standing }
+{}
+
+/// Whether an act changed what is kept is told by the flags, the reservation, the number of
+/// registrations and the caller's key.
+#[tactic(auto, using(crate::proofs::Puts::acted_keeps))]
+pub fn what_is_kept()
+    ensures { (limit : ℕ) (s : Standing) (n : Nexus) (o : ReserveOut) (t : Standing) → IsAscending s.pairs → t ≡ (acted limit s n o).standing → not (same_kept (kept s) (kept t)) ≡ keeps_by s.preserve t.preserve (looks_same s.pairs t.pairs n) (same_reservation s.reservation t.reservation) }
+{}
+
+/// Two values of what is kept are one just where `same_kept` says so.
+#[tactic(auto, using(crate::proofs::SameKept::same_kept_is, crate::proofs::SameKept::same_kept_itself))]
+pub fn same_kept_is_equality()
+    ensures same { (a b : Kept) → same_kept a b ≡ true → a ≡ b }
+    ensures itself { (a : Kept) → same_kept a a ≡ true }
+{}
 
 /// Bytes that wait behind a full buffer change no turn: they go on waiting behind what is left.
 pub fn bytes_wait()
     ensures { BytesWait }
-{
-}
+{}
