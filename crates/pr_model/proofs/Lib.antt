@@ -16,3 +16,4 @@ pub mod Rules
 pub mod Outcomes
 pub mod WellFormed
 pub mod SameKept
+pub mod Refusals

@@ -14,27 +14,27 @@ use Rattle.pr_model.proofs.Cases.{own_key, not_own_key, preempts, alone}
 use Rattle.pr_model.proofs.Holders.{own_registered}
 
 -- the rule that applies, by the tests of the function
-abbrev register_rule : ℕ → Standing → Nexus → ReserveOut → Rule
+abbrev pub register_rule : ℕ → Standing → Nexus → ReserveOut → Rule
 register_rule limit s n o =
     if o.action_key == 0 then (if is_registered s.pairs n then Leaves else Idle) else
     if not (is_registered s.pairs n) && not (nat_lt (length s.pairs) limit) then Overflows else Registers
 
-abbrev free_rule : Option Kind → Rule
+abbrev pub free_rule : Option Kind → Rule
 free_rule None = NoSuchKind
 free_rule (Some kind) = Reserves kind
 
-abbrev reserve_rule : Reservation → Nexus → ReserveOut → Rule
+abbrev pub reserve_rule : Reservation → Nexus → ReserveOut → Rule
 reserve_rule Free n o = free_rule (kind_at o.kind)
 reserve_rule (OfOne kind holder) n o = if same_nexus holder n && kind_code kind == o.kind then HoldsAlready else HeldOtherwise
 reserve_rule (OfAll kind) n o = if kind_code kind == o.kind then HoldsAlready else HeldOtherwise
 
-abbrev release_rule : Option Kind → Bool → ReserveOut → Rule
+abbrev pub release_rule : Option Kind → Bool → ReserveOut → Rule
 release_rule None holds o = HoldsNothing
 release_rule (Some kind) holds o =
     if not holds then HoldsNothing else
     if o.scope == 0 && kind_code kind == o.kind then Releases kind else OtherKind
 
-abbrev rule_of : ℕ → Standing → Nexus → ReserveOut → Rule
+abbrev pub rule_of : ℕ → Standing → Nexus → ReserveOut → Rule
 rule_of limit s n o =
     if o.action == 0 then (if key_or_zero (key_of s.pairs n) == o.key then register_rule limit s n o else Misnamed) else
     if o.action == 6 then register_rule limit s n o else
@@ -77,7 +77,7 @@ release_effect (Some kind) s n o = by (is_holder s n) (o.scope == 0 && kind_code
     by true false = refl
     by false b = refl
 
-rule_effect : (limit : ℕ) (s : Standing) (n : Nexus) (o : ReserveOut) → effect_of s n o (rule_of limit s n o) ≡ acted limit s n o
+pub rule_effect : (limit : ℕ) (s : Standing) (n : Nexus) (o : ReserveOut) → effect_of s n o (rule_of limit s n o) ≡ acted limit s n o
 rule_effect limit s n o = by (o.action == 0) (key_or_zero (key_of s.pairs n) == o.key) (o.action == 6) (is_own (key_of s.pairs n) o.key) (o.action == 1) (o.action == 2) (o.action == 3)
   where
     by : (zero_th named six own one two three : Bool)

@@ -4,11 +4,11 @@
 //! function is a law of the definitions, and says it in its contract.
 #![tactic(auto)]
 
-ghost use Rattle.std.specs.Prelude.{◌≡◌, ℕ, ◌≤◌, not, true};
+ghost use Rattle.std.specs.Prelude.{◌≡◌, ℕ, ◌≤◌, not, true, []};
 ghost use Rattle.pr_words.specs.declared.nexus.Nexus.{Nexus};
 ghost use Rattle.pr_grammar.specs.Standings.{Standing};
 ghost use Rattle.pr_model.specs.Registrants.{IsAscending, IsWellFormed};
-ghost use Rattle.pr_model.specs.Acts.{Acted, ReserveOut, acted, preempt};
+ghost use Rattle.pr_model.specs.Acts.{Acted, Good, ReserveOut, acted, preempt};
 ghost use Rattle.pr_model.specs.Cases.{Case, Applies, Preempts};
 ghost use Rattle.pr_model.specs.Effects.{Rule, IsRule, Acts};
 ghost use Rattle.pr_model.specs.Laws.{BytesWait};
@@ -50,6 +50,12 @@ pub fn what_is_kept()
 pub fn same_kept_is_equality()
     ensures same { (a b : Kept) → same_kept a b ≡ true → a ≡ b }
     ensures itself { (a : Kept) → same_kept a a ≡ true }
+{}
+
+/// A PERSISTENT RESERVE OUT that isn't GOOD changes nothing, and removes nobody.
+#[tactic(auto, using(crate::proofs::Refusals::refused_stays))]
+pub fn a_refusal_changes_nothing()
+    ensures { (limit : ℕ) (s : Standing) (n : Nexus) (o : ReserveOut) → ((acted limit s n o).verdict ≡ Good → ⊥) → ((acted limit s n o).standing ≡ s) × ((acted limit s n o).removed ≡ []) }
 {}
 
 /// Bytes that wait behind a full buffer change no turn: they go on waiting behind what is left.
