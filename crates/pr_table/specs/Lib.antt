@@ -1,0 +1,6 @@
+pub mod Goes
+pub mod Kepts
+pub mod Orderings
+pub mod Tables
+pub mod Told
+pub mod Noted

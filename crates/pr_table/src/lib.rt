@@ -1,0 +1,18 @@
+//! The registrations and the persistent reservation of the target, and what PERSISTENT RESERVE OUT
+//! makes of them (SPC-4).
+#![tactic(auto)]
+
+mod holding;
+mod kept;
+mod leaving;
+mod pairs;
+mod places;
+mod request;
+mod table;
+mod verdict;
+
+pub use kept::Kept;
+pub use pr_words::Pair;
+pub use request::{OutAction, OutList};
+pub use table::Table;
+pub use verdict::{Change, Verdict};

@@ -1,0 +1,137 @@
+ghost use Rattle.std.specs.Prelude.{◌≡◌, ◌<◌, ◌≤◌, length, [], IfOk, option_map, false, not, nat_lt, slice_get, Some};
+ghost use Rattle.std.specs.List.{list_any};
+ghost use Rattle.pr_words.specs.declared.nexus.Key.{Key as K};
+ghost use Rattle.pr_grammar.specs.Standings.{is_at, is_registered, key_of};
+ghost use Rattle.pr_model.specs.Registrants.{IsAscending, has_key, with_pair, but_those, just_those, pair};
+ghost use Rattle.pr_table.specs.Goes.{goes};
+
+use crate::leaving::Leaving;
+use crate::places::{drop_at, fill, has_key, list_those, place_of, put_in, take_out};
+use pr_words::{Key, Nexus, Pair};
+use std::alloc::{AllocError, Global};
+use std::marker::Model;
+
+/// Registrations by ascending nexus, one for each. All their room is taken at the start.
+#[derive(Drop)]
+pub struct Pairs {
+    items: Vec<Pair>,
+    limit: usize,
+}
+
+impl Model for Pairs {
+    ghost use Rattle.pr_table.specs.Orderings.{Ordered, IsOrdered};
+    ghost use Rattle.std.specs.Prelude.{vec_capacity};
+
+    ghost Value = { Ordered };
+
+    ghost view = { λ p. record { pairs = p.items.items; limit = p.limit } };
+
+    ghost invariant = { λ p. IsOrdered p.items.items p.limit (vec_capacity p.items) };
+}
+
+impl Pairs {
+    pub fn new(alloc: Global, limit: usize) -> Result<Pairs, AllocError>
+        ensures { IfOk result (λ p. (p.pairs ≡ []) × (p.limit ≡ limit)) }
+    {
+        let items = Vec::with_capacity(alloc, limit)?;
+        Ok(Pairs { items, limit })
+    }
+
+    pub fn len(&self) -> usize
+        ensures len { result ≡ length self.now.pairs }
+        ensures within { result ≤ self.now.limit }
+        ensures order { IsAscending self.now.pairs }
+    {
+        self.items.len()
+    }
+
+    pub fn is_full(&self) -> bool
+        ensures { result ≡ not (nat_lt (length self.now.pairs) self.now.limit) }
+    {
+        self.items.len() >= self.limit
+    }
+
+    pub fn at(&self, i: usize) -> Pair
+        requires { i < length self.now.pairs }
+        ensures { slice_get self.now.pairs i ≡ Some result }
+    {
+        self.items[i]
+    }
+
+    pub fn key_of(&self, nexus: Nexus) -> Option<Key>
+        ensures { option_map (λ (k : K). k.0) result ≡ key_of self.now.pairs nexus }
+    {
+        match place_of(self.items.as_slice(), nexus) {
+            Ok(place) => Some(self.items[place].key),
+            Err(_) => None,
+        }
+    }
+
+    pub fn is_registered(&self, nexus: Nexus) -> bool
+        ensures { result ≡ is_registered self.now.pairs nexus }
+    {
+        place_of(self.items.as_slice(), nexus).is_ok()
+    }
+
+    /// Whether some registration has this key.
+    pub fn has_key(&self, key: Key) -> bool
+        ensures { result ≡ list_any (has_key key.0) self.now.pairs }
+    {
+        has_key(self.items.as_slice(), key)
+    }
+
+    /// Registers a nexus with a key, or gives it another key.
+    pub fn put_in(&mut self, nexus: Nexus, key: Key)
+        requires { is_registered self.old.pairs nexus ≡ false → length self.old.pairs < self.old.limit }
+        ensures { self.new ≡ record { pairs = with_pair self.old.pairs (pair nexus key.0); limit = self.old.limit } }
+    {
+        put_in(&mut self.items, nexus, key);
+    }
+
+    /// Unregisters a nexus, and says whether it was registered.
+    pub fn drop_at(&mut self, nexus: Nexus) -> bool
+        ensures registered { result ≡ is_registered self.old.pairs nexus }
+        ensures same { result ≡ false → self.new ≡ self.old }
+        ensures after { self.new ≡ record { pairs = but_those (is_at nexus) self.old.pairs; limit = self.old.limit } }
+    {
+        drop_at(&mut self.items, nexus)
+    }
+
+    /// Unregisters those that leave.
+    pub fn take_out(&mut self, leaving: Leaving)
+        ensures { self.new ≡ record { pairs = but_those (goes leaving) self.old.pairs; limit = self.old.limit } }
+    {
+        take_out(&mut self.items, leaving);
+    }
+
+    /// Becomes the list of those that leave another one.
+    pub fn list_those(&mut self, pairs: &Pairs, leaving: Leaving)
+        requires { pairs.now.limit ≡ self.old.limit }
+        ensures { self.new ≡ record { pairs = just_those (goes leaving) pairs.now.pairs; limit = self.old.limit } }
+    {
+        list_those(pairs.items.as_slice(), &mut self.items, leaving);
+    }
+
+    pub fn clear(&mut self)
+        ensures { self.new ≡ record { pairs = []; limit = self.old.limit } }
+    {
+        self.items.clear();
+    }
+
+    /// Becomes these registrations.
+    pub fn fill(&mut self, pairs: &[Pair])
+        requires order { IsAscending pairs.now }
+        requires within { length pairs.now ≤ self.old.limit }
+        ensures { self.new ≡ record { pairs = pairs.now; limit = self.old.limit } }
+    {
+        fill(&mut self.items, pairs);
+    }
+
+    /// Becomes the same as another list of the same limit.
+    pub fn copy_from(&mut self, other: &Pairs)
+        requires { other.now.limit ≡ self.old.limit }
+        ensures { self.new ≡ other.now }
+    {
+        fill(&mut self.items, other.items.as_slice());
+    }
+}

@@ -1,0 +1,113 @@
+ghost use Rattle.std.specs.Prelude.{◌≡◌, ◌+◌, ◌<◌, ◌≤◌, length, take, drop, vec_len, vec_capacity, [], ◌++◌, ◌∷◌, MatchResult, true, false, if◌then◌else◌};
+ghost use Rattle.std.specs.List.{filter, list_any};
+ghost use Rattle.pr_grammar.specs.Standings.{is_at, is_registered, key_of};
+ghost use Rattle.pr_model.specs.Registrants.{IsAscending, has_key, with_pair, but_those, just_those, pair};
+ghost use Rattle.pr_model.specs.Places.{StandsAt, LacksAt, Divides};
+ghost use Rattle.pr_table.specs.Goes.{goes};
+
+use crate::leaving::Leaving;
+use pr_words::{Key, Nexus, Pair, is_same, stands_before};
+
+/// The place of a nexus's pair, or else the place where it would stand.
+#[tactic(auto, using(pr_model::proofs::Places::found_from, pr_model::proofs::Places::lacking_from, pr_model::proofs::Places::lacking_behind))]
+pub fn place_of(pairs: &[Pair], nexus: Nexus) -> Result<usize, usize>
+    requires { IsAscending pairs.now }
+    ensures { MatchResult result (StandsAt pairs.now nexus) (LacksAt pairs.now nexus) }
+{
+    let place = first_not_before(pairs, nexus);
+    if place == pairs.len() {
+        return Err(place);
+    }
+    if is_same(&pairs[place].nexus, &nexus) {
+        Ok(place)
+    } else {
+        Err(place)
+    }
+}
+
+/// The number of pairs whose nexuses come before this one.
+fn first_not_before(pairs: &[Pair], nexus: Nexus) -> usize
+    requires { IsAscending pairs.now }
+    ensures { Divides pairs.now nexus result }
+{
+    pairs.partition_point(|pair| stands_before(&pair.nexus, &nexus))
+}
+
+/// Takes the registrations that leave out.
+pub fn take_out(pairs: &mut Vec<Pair>, leaving: Leaving)
+    requires { IsAscending pairs.old.items }
+    ensures ascending { IsAscending pairs.new.items }
+    ensures pairs { pairs.new.items ≡ but_those (goes leaving) pairs.old.items }
+    ensures fewer { vec_len pairs.new ≤ vec_len pairs.old }
+    ensures room { vec_capacity pairs.new ≡ vec_capacity pairs.old }
+{
+    pairs.retain(|pair| !leaving.goes(pair));
+}
+
+/// Lists the registrations that leave.
+pub fn list_those(pairs: &[Pair], removed: &mut Vec<Pair>, leaving: Leaving)
+    requires { length pairs.now ≤ vec_capacity removed.old }
+    ensures fewer { vec_len removed.new ≤ length pairs.now }
+    ensures items { removed.new.items ≡ just_those (goes leaving) pairs.now }
+    ensures room { vec_capacity removed.old ≤ vec_capacity removed.new }
+{
+    removed.clear();
+    for pair in pairs {
+        if leaving.goes(pair) {
+            let _ = removed.push(*pair);
+        }
+    }
+}
+
+/// Puts a pair in, in its place, where there is room for it.
+pub fn put_in(pairs: &mut Vec<Pair>, nexus: Nexus, key: Key)
+    requires ascending { IsAscending pairs.old.items }
+    requires room { is_registered pairs.old.items nexus ≡ false → vec_len pairs.old < vec_capacity pairs.old }
+    ensures ascending { IsAscending pairs.new.items }
+    ensures pairs { pairs.new.items ≡ with_pair pairs.old.items (pair nexus key.0) }
+    ensures len { vec_len pairs.new ≤ (if is_registered pairs.old.items nexus then vec_len pairs.old else vec_len pairs.old + 1) }
+    ensures capacity { vec_capacity pairs.old ≤ vec_capacity pairs.new }
+{
+    match place_of(pairs.as_slice(), nexus) {
+        Ok(place) => pairs[place] = Pair { nexus, key },
+        Err(place) => {
+            let _ = pairs.insert(place, Pair { nexus, key });
+        }
+    }
+}
+
+/// Takes a nexus's pair out, if it has one.
+pub fn drop_at(pairs: &mut Vec<Pair>, nexus: Nexus) -> bool
+    requires { IsAscending pairs.old.items }
+    ensures registered { result ≡ is_registered pairs.old.items nexus }
+    ensures kept { result ≡ false → pairs.new ≡ pairs.old }
+    ensures ascending { IsAscending pairs.new.items }
+    ensures pairs { pairs.new.items ≡ but_those (is_at nexus) pairs.old.items }
+    ensures fewer { vec_len pairs.new ≤ vec_len pairs.old }
+    ensures capacity { vec_capacity pairs.new ≡ vec_capacity pairs.old }
+{
+    match place_of(pairs.as_slice(), nexus) {
+        Ok(place) => {
+            pairs.remove(place);
+            true
+        }
+        Err(_) => false,
+    }
+}
+
+/// Whether some pair has this key.
+pub fn has_key(pairs: &[Pair], key: Key) -> bool
+    ensures { result ≡ list_any (has_key key.0) pairs.now }
+{
+    pairs.iter().any(|pair| pair.key == key)
+}
+
+/// Makes a list the same as another, for which there is room.
+pub fn fill(pairs: &mut Vec<Pair>, from: &[Pair])
+    requires { length from.now ≤ vec_capacity pairs.old }
+    ensures items { pairs.new.items ≡ from.now }
+    ensures room { vec_capacity pairs.old ≤ vec_capacity pairs.new }
+{
+    pairs.clear();
+    let _ = pairs.extend_from_slice(from);
+}
