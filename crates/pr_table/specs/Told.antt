@@ -5,7 +5,7 @@ use Rattle.pr_grammar.specs.Standings.{Standing}
 use Rattle.pr_model.specs.Acts.{ReserveOut, Acted}
 use Rattle.pr_model.specs.Acts as model
 use Rattle.pr_model.specs.Keeping.{same_kept, kept}
-use Rattle.pr_table.specs.declared.request.OutList.{OutList}
+use Rattle.pr_grammar.specs.declared.param.OutList.{OutList}
 use Rattle.pr_table.specs.declared.request.OutAction.{OutAction}
 use Rattle.pr_table.specs.declared.verdict.Verdict.{Verdict}
 use Rattle.pr_table.specs.declared.verdict.Verdict.TheVariants.{Good, Conflict, Bad}

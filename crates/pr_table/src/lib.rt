@@ -12,7 +12,8 @@ mod table;
 mod verdict;
 
 pub use kept::Kept;
+pub use pr_param::{OutList, Registrants};
 pub use pr_words::Pair;
-pub use request::{OutAction, OutList};
+pub use request::OutAction;
 pub use table::Table;
 pub use verdict::{Change, Verdict};

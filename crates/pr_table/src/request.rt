@@ -1,15 +1,3 @@
-/// The parameter list of PERSISTENT RESERVE OUT (SPC-4).
-#[derive(Clone, Copy, Debug, PartialEq, Eq)]
-pub struct OutList {
-    /// RESERVATION KEY.
-    pub key: u64,
-    /// SERVICE ACTION RESERVATION KEY.
-    pub action_key: u64,
-    pub spec_i_pt: bool,
-    pub all_tg_pt: bool,
-    pub aptpl: bool,
-}
-
 /// The service action of a PERSISTENT RESERVE OUT, with the SCOPE and the TYPE of its CDB (SPC-4).
 #[derive(Clone, Copy, Debug, PartialEq, Eq)]
 pub struct OutAction {

@@ -7,8 +7,9 @@ use crate::holding::{
 use crate::kept::{Kept, reservation_of};
 use crate::leaving::Leaving;
 use crate::pairs::Pairs;
-use crate::request::{OutAction, OutList};
+use crate::request::OutAction;
 use crate::verdict::{Change, Verdict};
+use pr_param::{OutList, Registrants};
 use pr_words::{Code, Key, Kind, Nexus, Pair, Reservation, is_same};
 use std::alloc::{AllocError, Global};
 
@@ -37,7 +38,7 @@ struct Note {
 
 impl Table {
     ghost use Rattle.pr_words.specs.declared.reservation.Reservation.TheVariants.{Free};
-    ghost use Rattle.pr_grammar.specs.Standings.{Standing, is_registered, is_holder, key_of, kind_of, holder_of};
+    ghost use Rattle.pr_grammar.specs.Standings.{Standing, is_registered, is_holder, key_of};
     ghost use Rattle.pr_model.specs.Registrants.{IsAscending, IsWellFormed};
     ghost use Rattle.pr_model.specs.Acts.{acted, key_or_zero, is_own, register, reserve, release, clear, removing, preempt, taking, is_holders_key};
     ghost use Rattle.pr_model.specs.Keeping.{keeps_by, looks_same, same_reservation};
@@ -108,64 +109,6 @@ impl Table {
         self.reservation = other.reservation;
         self.generation = other.generation;
         self.preserve = other.preserve;
-    }
-
-    /// The number of registrations.
-    pub fn count(&self) -> usize
-        ensures { result ≡ length (standing_of self.now).pairs }
-    {
-        self.pairs.len()
-    }
-
-    /// The registration in this place from 0, by ascending nexus.
-    pub fn at(&self, i: usize) -> (Nexus, Key)
-        requires { i < length (standing_of self.now).pairs }
-        ensures { slice_get (standing_of self.now).pairs i ≡ Some (record { nexus = result.0; key = result.1 }) }
-    {
-        let pair = self.pairs.at(i);
-        (pair.nexus, pair.key)
-    }
-
-    /// PRGENERATION.
-    pub fn generation(&self) -> u32
-        ensures { result ≡ (standing_of self.now).generation }
-    {
-        self.generation
-    }
-
-    /// The type of the reservation. None where none is held.
-    pub fn kind(&self) -> Option<Kind>
-        ensures { result ≡ kind_of (standing_of self.now).reservation }
-    {
-        kind_of(&self.reservation)
-    }
-
-    /// The one nexus that holds the reservation. None where none is held, or every registrant holds it.
-    pub fn holder(&self) -> Option<Nexus>
-        ensures { result ≡ holder_of (standing_of self.now).reservation }
-    {
-        match self.reservation {
-            Reservation::OfOne { holder, .. } => Some(holder),
-            _ => None,
-        }
-    }
-
-    /// Whether a nexus holds the reservation, by itself or with all registrants.
-    pub fn is_holder(&self, nexus: Nexus) -> bool
-        ensures { result ≡ is_holder (standing_of self.now) nexus }
-    {
-        match self.reservation {
-            Reservation::Free => false,
-            Reservation::OfOne { holder, .. } => is_same(&holder, &nexus),
-            Reservation::OfAll { .. } => self.pairs.is_registered(nexus),
-        }
-    }
-
-    /// The APTPL bit of the registration that was accepted last.
-    pub fn preserve(&self) -> bool
-        ensures { result ≡ (standing_of self.now).preserve }
-    {
-        self.preserve
     }
 
     /// The key with which a nexus is registered.
@@ -356,7 +299,7 @@ impl Table {
         let Some(own) = kind_of(&self.reservation) else {
             return Verdict::Good(Change::telling(None));
         };
-        if !self.is_holder(nexus) {
+        if !self.holds(nexus) {
             return Verdict::Good(Change::telling(None));
         }
         if scope != 0 || own.code() != kind {
@@ -364,6 +307,16 @@ impl Table {
         }
         self.reservation = Reservation::Free;
         Verdict::Good(Change::telling(missed(own)))
+    }
+
+    fn holds(&self, nexus: Nexus) -> bool
+        ensures { result ≡ is_holder (standing_of self.now) nexus }
+    {
+        match self.reservation {
+            Reservation::Free => false,
+            Reservation::OfOne { holder, .. } => is_same(&holder, &nexus),
+            Reservation::OfAll { .. } => self.pairs.is_registered(nexus),
+        }
     }
 
     fn clear(&mut self) -> Verdict
@@ -446,5 +399,43 @@ impl Table {
             Reservation::OfOne { holder, .. } => self.is_own(holder, key),
             _ => false,
         }
+    }
+}
+
+impl Registrants for Table {
+    ghost use Rattle.pr_table.specs.Tables.{standing_of};
+
+    ghost standing = { λ t. standing_of t };
+
+    fn count(&self) -> usize {
+        self.pairs.len()
+    }
+
+    fn at(&self, i: usize) -> (Nexus, Key) {
+        let pair = self.pairs.at(i);
+        (pair.nexus, pair.key)
+    }
+
+    fn generation(&self) -> u32 {
+        self.generation
+    }
+
+    fn kind(&self) -> Option<Kind> {
+        kind_of(&self.reservation)
+    }
+
+    fn holder(&self) -> Option<Nexus> {
+        match self.reservation {
+            Reservation::OfOne { holder, .. } => Some(holder),
+            _ => None,
+        }
+    }
+
+    fn is_holder(&self, nexus: Nexus) -> bool {
+        self.holds(nexus)
+    }
+
+    fn preserve(&self) -> bool {
+        self.preserve
     }
 }
