@@ -1,6 +1,6 @@
 ghost use Rattle.std.specs.Prelude.{◌≡◌, [], ◌∷◌, take, drop, slice_get, false, true};
 ghost use Rattle.std.specs.List.{list_any};
-ghost use Rattle.pr_model.specs.Attentions.{powered_on, same_code, with_code, is_attention};
+ghost use Rattle.pr_model.specs.Attentions.{powered_on, same_code, with_code, is_attention, AreAttentions};
 
 use pr_words::Code;
 use std::marker::Model;
@@ -58,7 +58,8 @@ impl Attentions {
 
     /// The condition that is reported first. None where none waits.
     pub fn first(&self) -> Option<Code>
-        ensures { result ≡ slice_get self.now 0 }
+        ensures first { result ≡ slice_get self.now 0 }
+        ensures each_once { AreAttentions self.now }
     {
         if self.len == 0 {
             return None;

@@ -17,3 +17,6 @@ pub use pr_words::Pair;
 pub use request::OutAction;
 pub use table::Table;
 pub use verdict::{Change, Verdict};
+
+#[cfg(test)]
+mod tests;
