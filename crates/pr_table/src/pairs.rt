@@ -6,7 +6,7 @@ ghost use Rattle.pr_model.specs.Registrants.{IsAscending, has_key, with_pair, bu
 ghost use Rattle.pr_table.specs.Goes.{goes};
 
 use crate::leaving::Leaving;
-use crate::places::{drop_at, fill, has_key, list_those, place_of, put_in, take_out};
+use crate::places::{drop_at, fill, has_key, keep_those, place_of, put_in, take_out};
 use pr_words::{Key, Nexus, Pair};
 use std::alloc::{AllocError, Global};
 use std::marker::Model;
@@ -109,7 +109,8 @@ impl Pairs {
         requires { pairs.now.limit ≡ self.old.limit }
         ensures { self.new ≡ record { pairs = just_those (goes leaving) pairs.now.pairs; limit = self.old.limit } }
     {
-        list_those(pairs.items.as_slice(), &mut self.items, leaving);
+        fill(&mut self.items, pairs.items.as_slice());
+        keep_those(&mut self.items, leaving);
     }
 
     pub fn clear(&mut self)
