@@ -1,51 +1,21 @@
 -- The data of PERSISTENT RESERVE IN (SPC-4).
-use Rattle.std.specs.Prelude.{ℕ, zero, suc, ◌+◌, ◌*◌, ◌/◌, ◌%◌, ◌==◌, ◌||◌, ◌^◌, ◌<◌, ◌≤◌, nat_lt, min, not, Bool, true, false, IsTrue, List, [], ◌∷◌, ◌++◌, length, drop, slice_index, map, replicate, All, Option, Some, None, Result, Ok, Err, if◌then◌else◌}
-use Rattle.std.specs.List.{flat_map, list_any, AllPairs}
+use Rattle.std.specs.Prelude.{ℕ, zero, suc, ◌+◌, ◌*◌, ◌/◌, ◌%◌, ◌==◌, ◌^◌, ◌<◌, ◌≤◌, nat_lt, not, Bool, true, false, List, [], ◌∷◌, ◌++◌, length, drop, slice_index, map, All, Option, Some, None, Result, Ok, Err, if◌then◌else◌}
+use Rattle.std.specs.List.{flat_map}
 use Rattle.std.specs.Int.{w16, w32, w64, to_be_bytes}
 use Rattle.pr_words.specs.Fields.{number16_at, number32_at, number64_at}
 use Rattle.pr_words.specs.Kinds.{kind_code}
-use Rattle.pr_words.specs.Orders.{same_nexus, comes_before}
+use Rattle.pr_words.specs.Orders.{same_nexus}
 use Rattle.pr_words.specs.declared.nexus.Nexus.{Nexus}
 use Rattle.pr_words.specs.declared.nexus.Key.{Key}
 use Rattle.pr_words.specs.declared.nexus.Pair.{Pair}
 use Rattle.pr_words.specs.declared.reservation.Kind.{Kind}
-use Rattle.pr_words.specs.declared.reservation.Reservation.{Reservation}
-use Rattle.pr_words.specs.declared.reservation.Reservation.TheVariants.{Free, OfOne, OfAll}
-use Rattle.pr_grammar.specs.Standings.{Standing}
+use Rattle.pr_grammar.specs.Standings.{Standing, kind_of, holder_of}
 use Rattle.pr_grammar.specs.Cdbs.{bit}
 use Rattle.pr_grammar.specs.declared.param.ReplyFault.{ReplyFault}
 use Rattle.pr_grammar.specs.declared.param.ReplyFault.TheVariants.{BadLength, Cut}
 use Rattle.pr_grammar.specs.declared.param.Held.{Held}
 use Rattle.pr_grammar.specs.declared.param.Capabilities.{Capabilities}
 use Rattle.pr_grammar.specs.declared.param.FullEntry.{FullEntry}
-
--- What replies tell of a standing (SPC-4, persistent reservations)
-
--- the type that is held
-abbrev pub kind_held : Reservation → Option Kind
-kind_held Free = None
-kind_held (OfOne kind holder) = Some kind
-kind_held (OfAll kind) = Some kind
-
--- the one nexus that holds
-abbrev pub one_holder : Reservation → Option Nexus
-one_holder Free = None
-one_holder (OfOne kind holder) = Some holder
-one_holder (OfAll kind) = None
-
--- whether a nexus is among the registered ones
-abbrev pub is_listed : Nexus → List Pair → Bool
-is_listed n pairs = list_any (λ (p : Pair). same_nexus p.nexus n) pairs
-
--- whether a nexus holds: the one holder, or every registered nexus where the type is of all registrants
-abbrev pub is_held_by : Reservation → List Pair → Nexus → Bool
-is_held_by Free pairs n = false
-is_held_by (OfOne kind holder) pairs n = same_nexus holder n
-is_held_by (OfAll kind) pairs n = is_listed n pairs
-
--- registrations stand by ascending nexus, one for each
-abbrev pub AreAscending : List Pair → Type 0
-AreAscending pairs = AllPairs (λ (p q : Pair). IsTrue (comes_before p.nexus q.nexus)) pairs
 
 -- READ KEYS (SPC-4)
 
@@ -76,7 +46,7 @@ reservation_part pairs (Some kind) (Some holder) = held_bytes (key_at pairs hold
 
 abbrev pub reservation_reply : Standing → List ℕ
 reservation_reply s =
-    to_be_bytes w32 s.generation ++ reservation_part s.pairs (kind_held s.reservation) (one_holder s.reservation)
+    to_be_bytes w32 s.generation ++ reservation_part s.pairs (kind_of s.reservation) (holder_of s.reservation)
 
 -- REPORT CAPABILITIES (SPC-4): length 8; PTPL_C; TMV, and PTPL_A as the preserve flag; the mask of the six types
 
@@ -110,7 +80,7 @@ descriptor kind holder p =
 abbrev pub full_reply : Standing → List ℕ
 full_reply s =
     to_be_bytes w32 s.generation ++ to_be_bytes w32 (48 * length s.pairs)
-    ++ flat_map (descriptor (kind_held s.reservation) (one_holder s.reservation)) s.pairs
+    ++ flat_map (descriptor (kind_of s.reservation) (holder_of s.reservation)) s.pairs
 
 -- Reading replies that weren't truncated: reserved and obsolete bytes, and bytes behind the reply, are ignored
 
@@ -220,7 +190,7 @@ held_of pairs (Some kind) (Some holder) = Some (record { 0 = key_at pairs holder
 
 abbrev pub told_reservation : Standing → Held
 told_reservation s =
-    record { generation = s.generation; held = held_of s.pairs (kind_held s.reservation) (one_holder s.reservation) }
+    record { generation = s.generation; held = held_of s.pairs (kind_of s.reservation) (holder_of s.reservation) }
 
 abbrev pub told_capabilities : Standing → Capabilities
 told_capabilities s = record { flags = 0x01; more = 0x80 + bit s.preserve; mask = 0xEA01 }
@@ -232,5 +202,5 @@ told_entry kind holder p =
 abbrev pub listed_entries : Standing → FullList
 listed_entries s = record {
   generation = s.generation;
-  entries = map (told_entry (kind_held s.reservation) (one_holder s.reservation)) s.pairs;
+  entries = map (told_entry (kind_of s.reservation) (holder_of s.reservation)) s.pairs;
 }

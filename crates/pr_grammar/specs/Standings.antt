@@ -1,12 +1,12 @@
 -- Where registrations and the reservation stand (SPC-4, persistent reservations).
-use Rattle.std.specs.Prelude.{ℕ, Bool, false, List, [], ◌∷◌, Option, Some, None, if◌then◌else◌}
-use Rattle.std.specs.List.{list_any}
+use Rattle.std.specs.Prelude.{ℕ, Bool, false, List, [], ◌∷◌, Option, Some, None, if◌then◌else◌, IsTrue}
+use Rattle.std.specs.List.{list_any, AllPairs}
 use Rattle.pr_words.specs.declared.nexus.Nexus.{Nexus}
 use Rattle.pr_words.specs.declared.nexus.Pair.{Pair}
 use Rattle.pr_words.specs.declared.reservation.Kind.{Kind}
 use Rattle.pr_words.specs.declared.reservation.Reservation.{Reservation}
 use Rattle.pr_words.specs.declared.reservation.Reservation.TheVariants.{Free, OfOne, OfAll}
-use Rattle.pr_words.specs.Orders.{same_nexus}
+use Rattle.pr_words.specs.Orders.{same_nexus, comes_before}
 
 -- the registrations by ascending nexus, the reservation, PRGENERATION, and the APTPL bit accepted last
 pub record Standing : Type 0 where
@@ -47,3 +47,7 @@ is_holder_in (OfAll kind) ps n = is_registered ps n
 
 abbrev pub is_holder : Standing → Nexus → Bool
 is_holder s n = is_holder_in s.reservation s.pairs n
+
+-- by ascending nexus, one registration for each
+abbrev pub IsAscending : List Pair → Type 0
+IsAscending ps = AllPairs (λ (p q : Pair). IsTrue (comes_before p.nexus q.nexus)) ps

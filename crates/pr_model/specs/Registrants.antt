@@ -7,6 +7,7 @@ use Rattle.pr_words.specs.declared.reservation.Kind.TheVariants.{WriteAll, Exclu
 use Rattle.pr_words.specs.declared.reservation.Reservation.{Reservation}
 use Rattle.pr_words.specs.declared.reservation.Reservation.TheVariants.{Free, OfOne, OfAll}
 use Rattle.pr_words.specs.Orders.{comes_before}
+pub use Rattle.pr_grammar.specs.Standings.{IsAscending}
 use Rattle.pr_grammar.specs.Standings.{Standing, is_registered}
 
 abbrev pub pair : Nexus → ℕ → Pair
@@ -41,10 +42,6 @@ is_all _ = false
 -- a reservation of a type that a nexus takes
 abbrev pub held : Kind → Nexus → Reservation
 held kind n = if is_all kind then OfAll kind else OfOne kind n
-
--- by ascending nexus, one registration for each
-abbrev pub IsAscending : List Pair → Type 0
-IsAscending ps = AllPairs (λ p q. IsTrue (comes_before p.nexus q.nexus)) ps
 
 -- every holder is registered, and a reservation of all registrants has at least one
 abbrev pub IsHeldIn : Reservation → List Pair → Type 0

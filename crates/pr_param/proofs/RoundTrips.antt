@@ -18,7 +18,8 @@ use Rattle.pr_words.specs.Kinds.{kind_code}
 use Rattle.pr_grammar.specs.Cdbs.{bit}
 use Rattle.pr_grammar.specs.declared.param.Held.{Held}
 use Rattle.pr_grammar.specs.declared.param.FullEntry.{FullEntry}
-use Rattle.pr_grammar.specs.InReplies.{key_at, held_of, reservation_part, reservation_reply, read_reservation, told_reservation, capabilities_reply, read_capabilities, told_capabilities, holds, held_code, KeyList, FullList, key_bytes, keys_reply, full_reply, descriptor, keys_from, keys_sized, read_keys, entries_from, entry_of, first_odd, full_sized, read_full, FitsPair, FitsFields, listed_keys, listed_entries, told_entry, kind_held, one_holder}
+use Rattle.pr_grammar.specs.InReplies.{key_at, held_of, reservation_part, reservation_reply, read_reservation, told_reservation, capabilities_reply, read_capabilities, told_capabilities, holds, held_code, KeyList, FullList, key_bytes, keys_reply, full_reply, descriptor, keys_from, keys_sized, read_keys, entries_from, entry_of, first_odd, full_sized, read_full, FitsPair, FitsFields, listed_keys, listed_entries, told_entry}
+use Rattle.pr_grammar.specs.Standings.{kind_of, holder_of}
 use Rattle.std.proofs.Math.Seq.{drop-append-add}
 use Rattle.pr_param.proofs.Pieces.{length_pieces}
 use Rattle.pr_param.proofs.Readings.{odd_past}
@@ -86,7 +87,7 @@ part_read_back g pairs (Some kind) (Some holder) gf fits =
     ∙ ap (λ k. Ok (of_one g k kind)) (from_be_bytes-to_be_bytes_8 (key_at pairs holder) (key_fits pairs holder fits))
 
 pub reservation_read_back : (s : Standing) → FitsFields s → read_reservation (reservation_reply s) ≡ Ok (told_reservation s)
-reservation_read_back s fits = part_read_back s.generation s.pairs (kind_held s.reservation) (one_holder s.reservation) fits.0 fits.2
+reservation_read_back s fits = part_read_back s.generation s.pairs (kind_of s.reservation) (holder_of s.reservation) fits.0 fits.2
 
 -- REPORT CAPABILITIES
 
@@ -150,8 +151,8 @@ full_long bytes le = search (rules, le)
 pub full_read_back : (s : Standing) → FitsFields s → read_full (full_reply s) ≡ Ok (listed_entries s)
 full_read_back s fits =
     let bytes = full_reply s in
-    let kind = kind_held s.reservation in
-    let holder = one_holder s.reservation in
+    let kind = kind_of s.reservation in
+    let holder = holder_of s.reservation in
     let n : number32_at bytes 4 ≡ 48 * length s.pairs = from_be_bytes-to_be_bytes_4 (48 * length s.pairs) (omega (arith, fits.1)) in
     let g : number32_at bytes 0 ≡ s.generation = from_be_bytes-to_be_bytes_4 s.generation fits.0 in
     let le : 8 + 48 * length s.pairs ≤ length bytes = let h = length_pieces (descriptor kind holder) 48 (λ p. refl) s.pairs in omega (arith, h) in

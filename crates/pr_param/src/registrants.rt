@@ -1,6 +1,5 @@
 ghost use Rattle.std.specs.Prelude.{◌≡◌, ◌<◌, length, slice_get, Some};
-ghost use Rattle.pr_grammar.specs.Standings.{Standing};
-ghost use Rattle.pr_grammar.specs.InReplies.{kind_held, one_holder, is_held_by, AreAscending};
+ghost use Rattle.pr_grammar.specs.Standings.{Standing, kind_of, holder_of, is_holder_in, IsAscending};
 
 use pr_words::{Key, Kind, Nexus};
 
@@ -13,7 +12,7 @@ pub trait Registrants {
     /// The number of registrations.
     fn count(&self) -> usize
         ensures count { result ≡ length (standing self.now).pairs }
-        ensures order { AreAscending (standing self.now).pairs };
+        ensures order { IsAscending (standing self.now).pairs };
 
     /// The registration in this place from 0, by ascending nexus.
     fn at(&self, i: usize) -> (Nexus, Key)
@@ -26,15 +25,15 @@ pub trait Registrants {
 
     /// The type of the reservation. None where none is held.
     fn kind(&self) -> Option<Kind>
-        ensures { result ≡ kind_held (standing self.now).reservation };
+        ensures { result ≡ kind_of (standing self.now).reservation };
 
     /// The one nexus that holds the reservation. None where none is held, or every registrant holds it.
     fn holder(&self) -> Option<Nexus>
-        ensures { result ≡ one_holder (standing self.now).reservation };
+        ensures { result ≡ holder_of (standing self.now).reservation };
 
     /// Whether the nexus holds the reservation, by itself or with all registrants.
     fn is_holder(&self, nexus: Nexus) -> bool
-        ensures { result ≡ is_held_by (standing self.now).reservation (standing self.now).pairs nexus };
+        ensures { result ≡ is_holder_in (standing self.now).reservation (standing self.now).pairs nexus };
 
     /// The APTPL bit of the last accepted registration.
     fn preserve(&self) -> bool

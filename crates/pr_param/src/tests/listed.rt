@@ -1,7 +1,7 @@
 //! Registrants in memory.
 
 ghost use Rattle.std.specs.Prelude.{◌≡◌, ◌≤◌, vec_len};
-ghost use Rattle.pr_grammar.specs.InReplies.{AreAscending, is_listed};
+ghost use Rattle.pr_grammar.specs.Standings.{IsAscending, is_registered};
 
 use crate::Registrants;
 use pr_words::{Key, Kind, Nexus, Pair, Reservation, is_same, stands_before};
@@ -15,7 +15,7 @@ pub struct Listed {
     generation: u32,
     preserve: bool,
     ghost few: { vec_len pairs ≤ 64 },
-    ghost ascending: { AreAscending pairs.items },
+    ghost ascending: { IsAscending pairs.items },
 }
 
 impl Listed {
@@ -90,7 +90,7 @@ impl Registrants for Listed {
 }
 
 fn is_among(pairs: &[Pair], nexus: Nexus) -> bool
-    ensures { result ≡ is_listed nexus pairs.now }
+    ensures { result ≡ is_registered pairs.now nexus }
 {
     pairs.iter().any(|p| is_same(&p.nexus, &nexus))
 }
