@@ -229,7 +229,7 @@ pub fn replay_main<S: Source, K: Sink, M: Medium, D: Disk>(
     ensures decides { Decides result (2 ^ 32) (S.rest source.old) }
     ensures read { result ≡ Exit.ReadFault → Rose (S.faults source.old) (S.faults source.new) }
     ensures write { result ≡ Exit.WriteFault → Rose (K.faults sink.old) (K.faults sink.new) }
-    ensures untouched { result ≡ Exit.BadWords → (source.new ≡ source.old) × (sink.new ≡ sink.old) }
+    ensures untouched { result ≡ Exit.BadWords → (source.new ≡ source.old) × (sink.new ≡ sink.old) × (medium.new ≡ medium.old) × (disk.new ≡ disk.old) }
 {
     if !are_words(words) {
         return Exit::BadWords;
