@@ -22,6 +22,9 @@ const LOGOUT: &str = "00000008 03000000 00000009";
 /// Its reply.
 const LEFT: &str = "00000008 83000000 00000009";
 
+/// The reply to a command of tag 4 that there isn't: 5/20/00.
+const NO_COMMAND: &str = "0000001E 82000000 00000004 02120000 700005000000000A00000000200000000000";
+
 /// The frames of a whole session.
 const SESSION: [&str; 12] = [
     LOGIN,
@@ -129,6 +132,14 @@ fn output_of(alloc: Global, replies: &[&str]) -> Result<Vec<u8>, Fail> {
     Ok(output)
 }
 
+/// A Reject with its reason and the place in the stream of bytes that came.
+fn reject(alloc: Global, reason: u8, place: u64) -> Result<Vec<u8>, Fail> {
+    let mut bytes = bytes_of(alloc, &["00000014 FF000000 00000000"])?;
+    bytes.extend_from_slice(&[reason, 0, 0, 0])?;
+    bytes.extend_from_slice(&place.to_be_bytes())?;
+    Ok(bytes)
+}
+
 /// Runs `replay 1` over a disk of zeros and a medium of one block.
 fn run<S: Source, K: Sink>(alloc: Global, source: &mut S, sink: &mut K) -> Result<Exit, Fail> {
     let mut medium = SureMedium::new(vec![in alloc; 0u8; 512]?);
@@ -176,5 +187,311 @@ fn a_whole_session_is_answered(rt: HostRuntime) -> Result<(), Fail> {
     assert_eq!(rt; exit, Exit::Done);
     let wanted = output_of(alloc, &REPLIES)?;
     assert_eq!(rt; sink.bytes(), wanted.as_slice());
+    Ok(())
+}
+
+/// Frames that each arrive whole before a step of their own, and what they are answered.
+const CONVERSATIONS: [(&str, &[&str], &[&str]); 7] = [
+    (
+        "a Login of another version, then a right one",
+        &[
+            "00000014 01000000 00000001 02000001 0000000000000011",
+            LOGIN,
+        ],
+        &["0000000C 81000000 00000001 04000000", ACCEPTED],
+    ),
+    (
+        "a Login at port 17, then a right one",
+        &[
+            "00000014 01000000 00000001 01000011 0000000000000011",
+            LOGIN,
+        ],
+        &["0000000C 81000000 00000001 02000000", ACCEPTED],
+    ),
+    (
+        "a Login at port 0, then a right one",
+        &[
+            "00000014 01000000 00000001 01000000 0000000000000011",
+            LOGIN,
+        ],
+        &["0000000C 81000000 00000001 02000000", ACCEPTED],
+    ),
+    (
+        "a second Login, and nothing behind it",
+        &[LOGIN, LOGIN, TEST_UNIT_READY],
+        &[
+            ACCEPTED,
+            "00000014 FF000000 00000000 05000000 0000000000000018",
+        ],
+    ),
+    (
+        "a Logout, and nothing behind it",
+        &[LOGIN, LOGOUT, LOGIN, TEST_UNIT_READY],
+        &[ACCEPTED, LEFT],
+    ),
+    (
+        "commands that leave the unit attention: INQUIRY, REPORT LUNS, REQUEST SENSE",
+        &[
+            LOGIN,
+            "0000001C 02000000 00000004 06000000 120000002400 00000000000000000000",
+            "0000001C 02000000 00000004 0C000000 A00000000000000000100000 00000000",
+            "0000001C 02000000 00000004 06000000 030000001200 00000000000000000000",
+            TEST_UNIT_READY,
+            "0000001C 02000000 00000003 06000000 00000000000000000000000000000000",
+        ],
+        &[
+            ACCEPTED,
+            NO_COMMAND,
+            NO_COMMAND,
+            NO_COMMAND,
+            POWER_ON,
+            "0000000C 82000000 00000003 00000000",
+        ],
+    ),
+    (
+        "another logical unit",
+        &[
+            LOGIN,
+            "0000001C 02000001 00000002 06000000 00000000000000000000000000000000",
+            "0000001C 02000001 00000003 06000000 00000000000000000000000000000000",
+        ],
+        &[
+            ACCEPTED,
+            "0000001E 82000001 00000002 02120000 700006000000000A00000000290000000000",
+            "0000001E 82000001 00000003 02120000 700005000000000A00000000200000000000",
+        ],
+    ),
+];
+
+#[test]
+fn conversations_are_answered(rt: HostRuntime) -> Result<(), Fail> {
+    let alloc = rt.alloc();
+    for (what, frames, replies) in CONVERSATIONS {
+        let (exit, sink) = replay(alloc, schedule_of(alloc, frames)?)?;
+        assert_eq!(rt; exit, Exit::Done, "{what}");
+        let wanted = output_of(alloc, replies)?;
+        assert_eq!(rt; sink.bytes(), wanted.as_slice(), "{what}");
+    }
+    Ok(())
+}
+
+/// Frames that are rejected wherever they stand, and the reasons.
+const BROKEN: [(u8, &str); 13] = [
+    // too short and too long
+    (1, "00000007"),
+    (1, "0008001D"),
+    // kinds that no initiator sends, and flags
+    (2, "00000008 04010000 00000001"),
+    (2, "00000008 83000000 00000001"),
+    (3, "00000008 03010000 00000001"),
+    // a Login of one byte less, and one whose second byte isn't zero
+    (4, "00000013 01000000 00000001 0000000000000000000000"),
+    (4, "00000014 01000000 00000001 01010001 0000000000000011"),
+    // Commands whose CDB has no byte, 17 bytes, or a byte behind its end
+    (
+        4,
+        "0000001C 02000000 00000001 00000000 00000000000000000000000000000000",
+    ),
+    (
+        4,
+        "0000001C 02000000 00000001 11000000 00000000000000000000000000000000",
+    ),
+    (
+        4,
+        "0000001C 02000000 00000001 06000000 00000000000001000000000000000000",
+    ),
+    // Commands that are too short, and whose zeros aren't zero
+    (
+        4,
+        "0000001B 02000000 00000001 06000000 000000000000000000000000000000",
+    ),
+    (
+        4,
+        "0000001C 02000000 00000001 06000100 00000000000000000000000000000000",
+    ),
+    // a Logout with a body
+    (4, "00000009 03000000 00000001 00"),
+];
+
+#[test]
+fn broken_frames_are_rejected_first_and_second(rt: HostRuntime) -> Result<(), Fail> {
+    let alloc = rt.alloc();
+    for (reason, frame) in BROKEN {
+        let (exit, sink) = replay(alloc, schedule_of(alloc, &[frame, LOGIN])?)?;
+        assert_eq!(rt; exit, Exit::Done, "{frame}");
+        let mut wanted = Vec::new(alloc);
+        add_record(&mut wanted, &reject(alloc, reason, 0)?)?;
+        assert_eq!(rt; sink.bytes(), wanted.as_slice(), "{frame}");
+
+        let (exit, sink) = replay(alloc, schedule_of(alloc, &[LOGIN, frame, LOGOUT])?)?;
+        assert_eq!(rt; exit, Exit::Done, "{frame}");
+        let mut wanted = output_of(alloc, &[ACCEPTED])?;
+        add_record(&mut wanted, &reject(alloc, reason, 24)?)?;
+        assert_eq!(rt; sink.bytes(), wanted.as_slice(), "{frame}");
+    }
+    Ok(())
+}
+
+#[test]
+fn the_first_frame_is_a_login(rt: HostRuntime) -> Result<(), Fail> {
+    let alloc = rt.alloc();
+    for frame in [LOGOUT, TEST_UNIT_READY] {
+        let (exit, sink) = replay(alloc, schedule_of(alloc, &[frame, LOGIN])?)?;
+        assert_eq!(rt; exit, Exit::Done, "{frame}");
+        let mut wanted = Vec::new(alloc);
+        add_record(&mut wanted, &reject(alloc, 5, 0)?)?;
+        assert_eq!(rt; sink.bytes(), wanted.as_slice(), "{frame}");
+    }
+    Ok(())
+}
+
+/// Commands of tag 4 that are none of those that there are.
+const NO_COMMANDS: [&str; 11] = [
+    // no operation code of a command
+    "0000001C 02000000 00000004 06000000 FF000000000000000000000000000000",
+    // INQUIRY, REPORT LUNS, REQUEST SENSE
+    "0000001C 02000000 00000004 06000000 120000002400 00000000000000000000",
+    "0000001C 02000000 00000004 0C000000 A00000000000000000100000 00000000",
+    "0000001C 02000000 00000004 06000000 030000001200 00000000000000000000",
+    // READ RESERVATION
+    "0000001C 02000000 00000004 0A000000 5E010000000000002000 000000000000",
+    // REGISTER AND IGNORE EXISTING KEY with APTPL one
+    "00000034 02000000 00000004 0A000000 5F060000000000001800 000000000000 0000000000000000 0000000090010001 0000000001000000",
+    // the same with a list of 23 bytes, and with one that is cut to 23 bytes
+    "00000033 02000000 00000004 0A000000 5F060000000000001700 000000000000 0000000000000000 0000000090010001 00000000000000",
+    "00000033 02000000 00000004 0A000000 5F060000000000001800 000000000000 0000000000000000 0000000090010001 00000000000000",
+    // TEST UNIT READY with NACA one, with a CDB of 5 bytes, and with a byte of data
+    "0000001C 02000000 00000004 06000000 000000000004 00000000000000000000",
+    "0000001C 02000000 00000004 05000000 0000000000 0000000000000000000000",
+    "0000001D 02000000 00000004 06000000 000000000000 00000000000000000000 00",
+];
+
+#[test]
+fn other_commands_are_refused(rt: HostRuntime) -> Result<(), Fail> {
+    let alloc = rt.alloc();
+    let keys = "0000001C 02000000 00000005 0A000000 5E000000000000010000 000000000000";
+    let nobody = "00000014 82000000 00000005 00000000 00000000 00000000";
+    for frame in NO_COMMANDS {
+        let frames = [LOGIN, TEST_UNIT_READY, frame, keys];
+        let (exit, sink) = replay(alloc, schedule_of(alloc, &frames)?)?;
+        assert_eq!(rt; exit, Exit::Done, "{frame}");
+        let wanted = output_of(alloc, &[ACCEPTED, POWER_ON, NO_COMMAND, nobody])?;
+        assert_eq!(rt; sink.bytes(), wanted.as_slice(), "{frame}");
+    }
+    Ok(())
+}
+
+#[test]
+fn cuts_between_arrivals_change_nothing(rt: HostRuntime) -> Result<(), Fail> {
+    let alloc = rt.alloc();
+    let bytes = bytes_of(alloc, &SESSION)?;
+    let wanted = output_of(alloc, &REPLIES)?;
+    let (exit, sink) = replay(alloc, schedule_in_pieces(alloc, &bytes, 1, 1)?)?;
+    assert_eq!(rt; exit, Exit::Done);
+    assert_eq!(rt; sink.bytes(), wanted.as_slice());
+    for at in 0..=bytes.len() {
+        let (front, back) = bytes.split_at(at);
+        let mut schedule = schedule_in_pieces(alloc, front, front.len(), 12)?;
+        let rest = schedule_in_pieces(alloc, back, back.len(), 12)?;
+        schedule.extend_from_slice(&rest)?;
+        let (exit, sink) = replay(alloc, schedule)?;
+        assert_eq!(rt; exit, Exit::Done, "cut at {at}");
+        assert_eq!(rt; sink.bytes(), wanted.as_slice(), "cut at {at}");
+    }
+    Ok(())
+}
+
+/// A Login and then so many TEST UNIT READY, whose tags count from 0.
+fn many_frames(alloc: Global, count: u32) -> Result<Vec<u8>, Fail> {
+    let mut bytes = bytes_of(alloc, &[LOGIN])?;
+    let head = bytes_of(alloc, &["0000001C 02000000"])?;
+    let body = bytes_of(alloc, &["06000000 00000000000000000000000000000000"])?;
+    for tag in 0..count {
+        bytes.extend_from_slice(&head)?;
+        bytes.extend_from_slice(&tag.to_be_bytes())?;
+        bytes.extend_from_slice(&body)?;
+    }
+    Ok(bytes)
+}
+
+/// What these are answered.
+fn many_replies(alloc: Global, count: u32) -> Result<Vec<u8>, Fail> {
+    let power_on = "0000001E 82000000 00000000 02120000 700006000000000A00000000290000000000";
+    let mut output = output_of(alloc, &[ACCEPTED, power_on])?;
+    let head = bytes_of(alloc, &["00000010 0000000C 82000000"])?;
+    for tag in 1..count {
+        output.extend_from_slice(&head)?;
+        output.extend_from_slice(&tag.to_be_bytes())?;
+        output.extend_from_slice(&[0, 0, 0, 0])?;
+    }
+    Ok(output)
+}
+
+#[test]
+fn arrivals_without_steps_are_answered_in_order(rt: HostRuntime) -> Result<(), Fail> {
+    let alloc = rt.alloc();
+    let mut bytes = many_frames(alloc, 18_431)?;
+    bytes.truncate(9 * 65_535);
+    assert_eq!(rt; bytes.len(), 589_815);
+    let mut schedule = schedule_in_pieces(alloc, &bytes, 65_535, 0)?;
+    add_steps(&mut schedule, 18_500)?;
+    let (exit, sink) = replay(alloc, schedule)?;
+    assert_eq!(rt; exit, Exit::Done);
+    assert_eq!(rt; sink.bytes().len(), 20 + 38 + 20 * 18_429);
+    assert!(rt; sink.bytes() == many_replies(alloc, 18_430)?.as_slice());
+    Ok(())
+}
+
+/// A short session, for streams that move one byte a call: three frames with a step behind each.
+const SHORT: [&str; 3] = [LOGIN, TEST_UNIT_READY, LOGOUT];
+
+/// How many bytes of its schedule end with each step, and how many of its output with the reply.
+const STEPS: [(u64, usize); 4] = [(0, 0), (32, 20), (72, 58), (92, 74)];
+
+#[test]
+fn a_source_that_fails_ends_the_run(rt: HostRuntime) -> Result<(), Fail> {
+    let alloc = rt.alloc();
+    let schedule = schedule_of(alloc, &SHORT)?;
+    let whole = output_of(alloc, &[ACCEPTED, POWER_ON, LEFT])?;
+    for read in 0..100u64 {
+        let mut source = MemSource::in_pieces(schedule.clone()?, 1, [read + 1].to_vec(alloc)?);
+        let mut sink = MemSink::new(alloc, Vec::new(alloc));
+        let exit = run(alloc, &mut source, &mut sink)?;
+        // the call behind the last byte finds the end
+        let wanted = if read <= 92 {
+            Exit::ReadFault
+        } else {
+            Exit::Done
+        };
+        assert_eq!(rt; exit, wanted, "after {read} bytes");
+        let past = STEPS.iter().rfind(|step| step.0 <= read);
+        let written = past.map_or(0, |step| step.1);
+        assert!(rt;
+            whole.get(..written) == Some(sink.bytes()),
+            "after {read} bytes"
+        );
+    }
+    Ok(())
+}
+
+#[test]
+fn a_sink_that_fails_ends_the_run(rt: HostRuntime) -> Result<(), Fail> {
+    let alloc = rt.alloc();
+    let schedule = schedule_of(alloc, &SHORT)?;
+    let whole = output_of(alloc, &[ACCEPTED, POWER_ON, LEFT])?;
+    for written in 0..80usize {
+        let mut source = MemSource::new(schedule.clone()?, Vec::new(alloc));
+        let failing = [written as u64 + 1].to_vec(alloc)?;
+        let mut sink = MemSink::in_pieces(alloc, 1, failing);
+        let exit = run(alloc, &mut source, &mut sink)?;
+        let wanted = if written < 74 {
+            Exit::WriteFault
+        } else {
+            Exit::Done
+        };
+        assert_eq!(rt; exit, wanted, "after {written} bytes");
+        let held = whole.get(..written.min(74));
+        assert!(rt; held == Some(sink.bytes()), "after {written} bytes");
+    }
     Ok(())
 }
