@@ -1,6 +1,6 @@
 use pr_io::{MemSink, MemSource, Sink, Source, SureDisk, SureMedium};
 use pr_tool::{Exit, replay_main};
-use std::alloc::{AllocError, Global};
+use std::alloc::Global;
 use std::test::*;
 
 /// A Login of version 1 by the name 11h at port 1, whose tag is 1.
