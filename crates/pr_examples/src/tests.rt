@@ -26,7 +26,7 @@ const LEFT: &str = "00000008 83000000 00000009";
 const NO_COMMAND: &str = "0000001E 82000000 00000004 02120000 700005000000000A00000000200000000000";
 
 /// The frames of a whole session.
-const SESSION: [&str; 12] = [
+const SESSION: [&str; 14] = [
     LOGIN,
     TEST_UNIT_READY,
     // TEST UNIT READY again
@@ -43,11 +43,14 @@ const SESSION: [&str; 12] = [
     // the registration is given up, and the keys are read
     "00000034 02000000 0000000A 0A000000 5F060000000000001800 000000000000 0000000000000000 0000000000000000 0000000000000000",
     "0000001C 02000000 0000000B 0A000000 5E000000000000010000 000000000000",
+    // there is none to give up any more, and the keys are read
+    "00000034 02000000 0000000C 0A000000 5F060000000000001800 000000000000 0000000000000000 0000000000000000 0000000000000000",
+    "0000001C 02000000 0000000D 0A000000 5E000000000000010000 000000000000",
     LOGOUT,
 ];
 
 /// What each of them is answered.
-const REPLIES: [&str; 12] = [
+const REPLIES: [&str; 14] = [
     ACCEPTED,
     POWER_ON,
     "0000000C 82000000 00000003 00000000",
@@ -59,6 +62,8 @@ const REPLIES: [&str; 12] = [
     "0000001C 82000000 00000009 00000000 00000002 00000008 0000000090010001",
     "0000000C 82000000 0000000A 00000000",
     "00000014 82000000 0000000B 00000000 00000003 00000000",
+    "0000000C 82000000 0000000C 00000000",
+    "00000014 82000000 0000000D 00000000 00000003 00000000",
     LEFT,
 ];
 
@@ -391,8 +396,8 @@ fn cuts_between_arrivals_change_nothing(rt: HostRuntime) -> Result<(), Fail> {
     assert_eq!(rt; sink.bytes(), wanted.as_slice());
     for at in 0..=bytes.len() {
         let (front, back) = bytes.split_at(at);
-        let mut schedule = schedule_in_pieces(alloc, front, front.len(), 12)?;
-        let rest = schedule_in_pieces(alloc, back, back.len(), 12)?;
+        let mut schedule = schedule_in_pieces(alloc, front, front.len(), 14)?;
+        let rest = schedule_in_pieces(alloc, back, back.len(), 14)?;
         schedule.extend_from_slice(&rest)?;
         let (exit, sink) = replay(alloc, schedule)?;
         assert_eq!(rt; exit, Exit::Done, "cut at {at}");
