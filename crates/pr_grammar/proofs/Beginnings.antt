@@ -4,7 +4,7 @@ use Rattle.std.specs.Int.{w16, from_be_bytes, to_be_bytes}
 use Rattle.std.proofs.lemmas.Bool.{lt-ltb, cases_lt}
 use Rattle.std.proofs.lemmas.List.{length-take-le, length-replicate, length-append, take-append-drop, get_or_append_left, get_or-append_right, get_or-replicate, get_or_past}
 use Rattle.std.proofs.lemmas.List.Elements.{All-append, All-replicate}
-use Rattle.pr_grammar.specs.Schedules.{Record, Arrival, Step_of, IsRecord, spelled_record, can_begin}
+use Rattle.pr_grammar.specs.Schedules.{Record, Arrival, Step_of, Close_of, IsRecord, spelled_record, can_begin}
 use Rattle.pr_grammar.specs.Laws.{Becomes, NeverBecomes}
 use Rattle.pr_grammar.proofs.Records.{Begins, begins, begun_before}
 use Rattle.pr_grammar.proofs.Spellings.{IsByte, two_bytes, part_small, small_at}
@@ -12,6 +12,7 @@ use Rattle.pr_grammar.proofs.Spellings.{IsByte, two_bytes, part_small, small_at}
 begun_spelled : (lanes : ℕ) (r : Record) (rest : List ℕ) → IsRecord lanes r → can_begin lanes (spelled_record r ++ rest) ≡ true
 begun_spelled lanes (Arrival lane bytes) rest valid = let known : ltb lane lanes ≡ true = lt-ltb lane lanes valid.0 in rw known refl
 begun_spelled lanes (Step_of lane) rest valid = let known : ltb lane lanes ≡ true = lt-ltb lane lanes valid in rw known refl
+begun_spelled lanes (Close_of lane) rest valid = let known : ltb lane lanes ≡ true = lt-ltb lane lanes valid in rw known refl
 
 pub never_becomes : NeverBecomes
 never_becomes lanes bytes not_begun more r rest valid is =
@@ -37,6 +38,21 @@ arrival_whole lanes p r s n tail known small is low fits =
       ap (λ (w : List ℕ). p ∷ 0 ∷ r ∷ s ∷ w) text ∙ ap (λ (w : List ℕ). p ∷ 0 ∷ (w ++ (take n tail ++ drop n tail))) (sym two),
     )
 
+-- a record without bytes
+bare_whole : (lanes p q r s : ℕ) (tail : List ℕ) → p < lanes → 1 ≤ q → q < 3 → (r ≡ 0) × (s ≡ 0) → StartsWhole lanes (p ∷ q ∷ r ∷ s ∷ tail)
+bare_whole lanes p q r s tail known some few empty = elim (cases_lt q 2) [
+  | inl step ↦ (
+      let one : q ≡ 1 = omega (arith, some) in
+      let text : p ∷ q ∷ r ∷ s ∷ tail ≡ p ∷ 1 ∷ 0 ∷ 0 ∷ tail = cc (one, empty.0, empty.1) in
+      (Step_of p, tail, known, text)
+      )
+  | inr close ↦ (
+      let two : q ≡ 2 = omega (arith, few, close) in
+      let text : p ∷ q ∷ r ∷ s ∷ tail ≡ p ∷ 2 ∷ 0 ∷ 0 ∷ tail = cc (two, empty.0, empty.1) in
+      (Close_of p, tail, known, text)
+      )
+]
+
 starts_whole : (lanes : ℕ) (bytes : List ℕ) → All IsByte bytes → can_begin lanes bytes ≡ true → 4 + said bytes ≤ length bytes → StartsWhole lanes bytes
 starts_whole lanes (p ∷ q ∷ r ∷ s ∷ tail) small begun whole =
     let known : Begins lanes p q r s = begins lanes p q r s begun in
@@ -48,11 +64,9 @@ starts_whole lanes (p ∷ q ∷ r ∷ s ∷ tail) small begun whole =
           let zero : 0 ≡ q = omega arith in
           subst (λ (k : ℕ). StartsWhole lanes (p ∷ k ∷ r ∷ s ∷ tail)) zero (arrival_whole lanes p r s (r * 256 + s) tail known.0 two refl (omega arith) (omega (arith, whole)))
           )
-      | inr step ↦ (
-          let one : q ≡ 1 = omega (arith, known.1) in
-          let empty : (r ≡ 0) × (s ≡ 0) = elim known.2 [ inl arrival ↦ absurd (omega (arith, arrival, one)) | inr both ↦ both ] in
-          let text : p ∷ q ∷ r ∷ s ∷ tail ≡ p ∷ 1 ∷ 0 ∷ 0 ∷ tail = cc (one, empty.0, empty.1) in
-          (Step_of p, tail, known.0, text)
+      | inr other ↦ (
+          let empty : (r ≡ 0) × (s ≡ 0) = elim known.2 [ inl arrival ↦ absurd (omega (arith, arrival, other)) | inr both ↦ both ] in
+          bare_whole lanes p q r s tail known.0 other known.1 empty
           )
     ]
 starts_whole lanes _ small begun whole = absurd (omega (arith, whole))

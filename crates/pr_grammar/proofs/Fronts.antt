@@ -13,7 +13,7 @@ grown (Short k) ys = Short k
 grown (Broken r) ys = Broken r
 grown (Whole f rest) ys = Whole f (rest ++ ys)
 
-second : (a b : Bool) → (a || b) ≡ false → b ≡ false
+pub second : (a b : Bool) → (a || b) ≡ false → b ≡ false
 second true b e = absurd cc
 second false b e = e
 
@@ -23,7 +23,7 @@ by_tests false true c f rest ys = refl
 by_tests false false true f rest ys = refl
 by_tests false false false f rest ys = refl
 
-checked_more : (side : Side) (content rest ys : List ℕ) → checked side content (rest ++ ys) ≡ grown (checked side content rest) ys
+pub checked_more : (side : Side) (content rest ys : List ℕ) → checked side content (rest ++ ys) ≡ grown (checked side content rest) ys
 checked_more side content rest ys = by_tests _ _ _ _ rest ys
 
 sized_in : (side : Side) (b : Bool) (xs ys : List ℕ) (len : ℕ) → (ltb len 8 || ltb 524316 len) ≡ b → 524320 ≤ length xs → sized side len (xs ++ ys) ≡ grown (sized side len xs) ys
@@ -45,7 +45,7 @@ front_more side xs ys long =
     rw (one, two, number) (sized_in side _ xs ys (number32_at xs 0) refl long)
 
 -- a front that lacks nothing
-abbrev IsThere : Front → Type 0
+abbrev pub IsThere : Front → Type 0
 IsThere (Short k) = ⊥
 IsThere (Broken r) = Unit {0}
 IsThere (Whole f rest) = Unit {0}
@@ -56,7 +56,7 @@ tests_there false true c f rest = tt
 tests_there false false true f rest = tt
 tests_there false false false f rest = tt
 
-checked_there : (side : Side) (content rest : List ℕ) → IsThere (checked side content rest)
+pub checked_there : (side : Side) (content rest : List ℕ) → IsThere (checked side content rest)
 checked_there side content rest = tests_there _ _ _ _ rest
 
 sized_there : (side : Side) (b : Bool) (xs : List ℕ) (len : ℕ) → (ltb len 8 || ltb 524316 len) ≡ b → 524320 ≤ length xs → IsThere (sized side len xs)

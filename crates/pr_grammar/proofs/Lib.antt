@@ -2,3 +2,5 @@ pub mod Fronts
 pub mod Spellings
 pub mod Records
 pub mod Beginnings
+pub mod Framings
+mod Shown

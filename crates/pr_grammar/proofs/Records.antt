@@ -9,7 +9,7 @@ use Rattle.std.proofs.lemmas.List.Elements.{All-cons, All-head, All-tail}
 use Rattle.std.proofs.Math.Seq.{take-append-add}
 use Rattle.std.proofs.lemmas.Nat.{from_be_bytes-to_be_bytes_2}
 use Rattle.pr_words.specs.Fields.{number16_at}
-use Rattle.pr_grammar.specs.Schedules.{Record, Arrival, Step_of, IsRecord, spelled_record, RecordFront, Partial, Faulty, Entire, can_begin, record_at, record_front, IsUnfinished, Cut, IsWhole, IsBroken, IsLong}
+use Rattle.pr_grammar.specs.Schedules.{Record, Arrival, Step_of, Close_of, IsRecord, spelled_record, RecordFront, Partial, Faulty, Entire, can_begin, record_at, record_front, IsUnfinished, Cut, IsWhole, IsBroken, IsLong}
 
 arrival_front : (lanes lane a b : ℕ) (body rest : List ℕ) → from_be_bytes w16 (a ∷ b ∷ []) ≡ length body → lane < lanes
     → record_front lanes (lane ∷ 0 ∷ a ∷ b ∷ (body ++ rest)) ≡ Entire (Arrival lane body) rest
@@ -32,10 +32,19 @@ step_front lanes lane rest fits =
     let four : ltb (length bytes) 4 ≡ false = le-ltb _ _ (omega arith) in
     rw (known, four) refl
 
+close_front : (lanes lane : ℕ) (rest : List ℕ) → lane < lanes → record_front lanes (lane ∷ 2 ∷ 0 ∷ 0 ∷ rest) ≡ Entire (Close_of lane) rest
+unfolding record_front
+close_front lanes lane rest fits =
+    let known : ltb lane lanes ≡ true = lt-ltb lane lanes fits in
+    let bytes : List ℕ = lane ∷ 2 ∷ 0 ∷ 0 ∷ rest in
+    let four : ltb (length bytes) 4 ≡ false = le-ltb _ _ (omega arith) in
+    rw (known, four) refl
+
 -- a record that is spelled and then read, with anything behind it
 pub record_front-spelled : (lanes : ℕ) (r : Record) (rest : List ℕ) → IsRecord lanes r → record_front lanes (spelled_record r ++ rest) ≡ Entire r rest
 record_front-spelled lanes (Arrival lane bytes) rest valid = arrival_front lanes lane _ _ bytes rest (from_be_bytes-to_be_bytes_2 (length bytes) valid.1) valid.0
 record_front-spelled lanes (Step_of lane) rest valid = step_front lanes lane rest valid
+record_front-spelled lanes (Close_of lane) rest valid = close_front lanes lane rest valid
 
 -- no record stands at the front of nothing
 pub nothing_unfinished : (lanes : ℕ) → IsUnfinished (record_front lanes [])
@@ -83,12 +92,12 @@ short_unfinished lanes bytes short = unfinished_when (can_begin lanes bytes) lan
 
 -- the first four bytes, as far as they have come, can become a record's head
 abbrev pub Begins : ℕ → ℕ → ℕ → ℕ → ℕ → Type 0
-Begins lanes a b c d = (a < lanes) × (b < 2) × ((b ≡ 0) ⊎ ((c ≡ 0) × (d ≡ 0)))
+Begins lanes a b c d = (a < lanes) × (b < 3) × ((b ≡ 0) ⊎ ((c ≡ 0) × (d ≡ 0)))
 
-pub begins : (lanes a b c d : ℕ) → (ltb a lanes && ltb b 2 && (eqb b 0 || (eqb c 0 && eqb d 0))) ≡ true → Begins lanes a b c d
+pub begins : (lanes a b c d : ℕ) → (ltb a lanes && ltb b 3 && (eqb b 0 || (eqb c 0 && eqb d 0))) ≡ true → Begins lanes a b c d
 begins lanes a b c d is = grind (arith, nat_tests)
 
-begun : (lanes a b c d : ℕ) → Begins lanes a b c d → (ltb a lanes && ltb b 2 && (eqb b 0 || (eqb c 0 && eqb d 0))) ≡ true
+begun : (lanes a b c d : ℕ) → Begins lanes a b c d → (ltb a lanes && ltb b 3 && (eqb b 0 || (eqb c 0 && eqb d 0))) ≡ true
 begun lanes a b c d is = grind (arith, nat_tests)
 
 -- each field may be zero, so the front of what can become a record can become one

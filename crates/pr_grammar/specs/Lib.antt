@@ -7,4 +7,5 @@ pub mod Frames
 pub mod Bodies
 pub mod Schedules
 pub mod Outputs
+pub mod Shows
 pub mod Laws

@@ -17,3 +17,5 @@ pub mod Outcomes
 pub mod WellFormed
 pub mod SameKept
 pub mod Refusals
+pub mod Reaching
+pub mod Refused

@@ -1,5 +1,5 @@
 -- Turns that make room: what waits behind a full buffer goes on waiting behind what is left of it.
-use Rattle.std.proofs.Common.{◌≡◌, ℕ, suc, zero, ◌+◌, ◌≤◌, ◌<◌, Bool, true, false, cond, eqb, List, [], ◌∷◌, ◌++◌, length, refl, sym, ap, ◌∙◌, append_assoc, subst, arith, ◌⊎◌, inl, inr}
+use Rattle.std.proofs.Common.{◌≡◌, ℕ, suc, zero, ◌+◌, ◌≤◌, ◌<◌, Bool, true, false, cond, eqb, List, [], ◌++◌, length, refl, sym, ap, ◌∙◌, append_assoc, subst, arith}
 use Rattle.std.proofs.lemmas.List.{append-nil, length-drop}
 use std.Path.{fun_ext}
 use Rattle.pr_words.specs.declared.nexus.Nexus.{Nexus}
@@ -11,7 +11,7 @@ use Rattle.pr_grammar.proofs.Fronts.{grown, front_more, full_front}
 use Rattle.pr_grammar.proofs.Spellings.{found}
 use Rattle.pr_model.specs.Limits.{HELD}
 use Rattle.pr_model.specs.Entries.{Out, Login_code, Ended, Started, Wrote, Read, Done, Aborted, Fault, Left, Restored, Login, Command, Logout, History}
-use Rattle.pr_model.specs.Lanes.{Phase, Fresh, In, Dead, Lane, lane, dead, Turned, turned, Turn, Idle, Silent, Asks, turn, turn_at, broken, asked, arrived, after_login, after_command, after_logout, phase_after_login, place_after, rejected, replied}
+use Rattle.pr_model.specs.Lanes.{Phase, Fresh, In, Dead, Lane, lane, dead, Turned, turned, Turn, Idle, Silent, Asks, turn, turn_at, arrived, after_login, after_command, after_logout, place_after, rejected, replied}
 use Rattle.pr_model.specs.Runs.{Deed, joined, nothing, Makes, TakesTurn, TakesTurns}
 use Rattle.pr_model.proofs.RunLaws.{joined-nothing, joined-assoc}
 
@@ -128,9 +128,6 @@ turns-append (suc k) who l mid last d e done more takes =
 pub data MadeRoom : Lane → Type 0 where
   Has_died : (l : Lane) → l.phase ≡ Dead → MadeRoom l
   Has_room : (l : Lane) → length l.bytes < HELD → MadeRoom l
-
-phase_room : (bytes rest : List ℕ) (p : Phase) (place : ℕ) → length bytes ≤ HELD → length rest < length bytes → MadeRoom (lane rest p place)
-phase_room bytes rest p place full less = Has_room (lane rest p place) (omega arith)
 
 login_room : (f : Frame) (rest : List ℕ) (place : ℕ) (out : Out) → length rest < HELD → MadeRoom (after_login f rest place out).lane
 login_room f rest place (Login_code c) less = Has_room _ less

@@ -1,13 +1,20 @@
 -- What a command is answered, and the world that it leaves (SPC-4).
-use Rattle.std.specs.Prelude.{ℕ, ◌==◌, ◌&&◌, ◌||◌, nat_lt, not, Bool, false, List, [], ◌∷◌, length, take, Some, None, if◌then◌else◌}
+use Rattle.std.specs.Prelude.{ℕ, ◌-◌, ◌==◌, ◌&&◌, ◌||◌, nat_lt, not, Bool, false, List, [], ◌∷◌, length, take, Option, Some, None, is_some, if◌then◌else◌}
 use Rattle.pr_words.specs.declared.nexus.Nexus.{Nexus}
 use Rattle.pr_words.specs.declared.code.Code.{Code}
 use Rattle.pr_words.specs.declared.code.Status.TheVariants as status
-use Rattle.pr_grammar.specs.Cdbs.{operation_code, service_action, is_naca, reserve_in_allocation, reserve_out_length}
-use Rattle.pr_grammar.specs.OutLists.{list_action_key, list_flags}
-use Rattle.pr_grammar.specs.InReplies.{keys_reply}
+use Rattle.pr_words.specs.Kinds.{kind_at}
+use Rattle.pr_grammar.specs.Standings.{Standing}
+use Rattle.pr_grammar.specs.Senses.{fixed_sense, descriptor_sense}
+use Rattle.pr_grammar.specs.declared.cdb.Command.{Command}
+use Rattle.pr_grammar.specs.declared.cdb.Command.TheVariants.{TestUnitReady, RequestSense, ReserveIn, ReserveOut}
+use Rattle.pr_grammar.specs.Cdbs.{operation_code, is_naca, cdb_length, command_of}
+use Rattle.pr_grammar.specs.declared.param.OutList.{OutList}
+use Rattle.pr_grammar.specs.OutLists.{list_of}
+use Rattle.pr_grammar.specs.InReplies.{keys_reply, reservation_reply, capabilities_reply, full_reply}
 use Rattle.pr_model.specs.Limits.{LIMIT}
-use Rattle.pr_model.specs.Acts.{Acted, Verdict, Good, Conflict, Bad, register}
+use Rattle.pr_model.specs.Acts as acts
+use Rattle.pr_model.specs.Acts.{Acted, Verdict, Good, Conflict, Bad, acted}
 use Rattle.pr_model.specs.Attentions.{told}
 use Rattle.pr_model.specs.Worlds.{World, set_at}
 use Rattle.pr_model.specs.Entries.{Out, Ended}
@@ -33,11 +40,125 @@ good data_in = Ended status.Good None data_in
 abbrev pub conflict : Out
 conflict = Ended status.ReservationConflict None []
 
--- INVALID COMMAND OPERATION CODE
+-- LOGICAL UNIT NOT SUPPORTED, INVALID COMMAND OPERATION CODE, INVALID FIELD IN CDB, PARAMETER LIST LENGTH ERROR, INVALID FIELD IN PARAMETER LIST, and no sense
+abbrev pub unsupported_unit : Code
+unsupported_unit = code 5 0x25 0
+
 abbrev pub invalid_operation : Code
 invalid_operation = code 5 0x20 0
 
--- a PERSISTENT RESERVE OUT: only one that is accepted changes the world
+abbrev pub invalid_field : Code
+invalid_field = code 5 0x24 0
+
+abbrev pub list_length_error : Code
+list_length_error = code 5 0x1A 0
+
+abbrev pub invalid_list : Code
+invalid_list = code 5 0x26 0
+
+abbrev pub no_sense : Code
+no_sense = code 0 0 0
+
+-- The checks of a command
+
+-- a check that refuses where a test holds, and changes nothing
+abbrev pub refused_where : Bool → World → Code → Option Answer
+refused_where fails w c = if fails then Some (answer w (checking c)) else None
+
+-- INQUIRY, REPORT LUNS and REQUEST SENSE are for every logical unit, and pass a unit attention (SPC-4, SAM-5)
+abbrev pub is_unconditional : ℕ → Bool
+is_unconditional op = op == 0x12 || op == 0xA0 || op == 0x03
+
+-- the target has logical unit 0 alone
+abbrev pub is_elsewhere : ℕ → ℕ → Bool
+is_elsewhere lun op = not (lun == 0) && not (is_unconditional op)
+
+-- a unit attention that waits is reported first, and goes
+abbrev pub attention_check : World → Nexus → ℕ → List Code → Option Answer
+attention_check w n op [] = None
+attention_check w n op (c ∷ cs) =
+    if is_unconditional op then None else Some (answer (record w { attentions = set_at w.attentions n cs }) (checking c))
+
+-- the operation codes that are served yet: TEST UNIT READY, REQUEST SENSE, PERSISTENT RESERVE IN and OUT
+abbrev pub is_served : ℕ → Bool
+is_served op = op == 0x00 || op == 0x03 || op == 0x5E || op == 0x5F
+
+-- scope and type of a RESERVE: of the logical unit, and one of the six
+abbrev pub is_reservable : ℕ → ℕ → Bool
+is_reservable scope kind = scope == 0 && is_some (kind_at kind)
+
+-- the command's own fields: a service action that isn't supported, or a RESERVE with another scope or type
+abbrev pub has_bad_field : Command → Bool
+has_bad_field (ReserveIn action allocation) = nat_lt 3 action
+has_bad_field (ReserveOut action scope kind list) = nat_lt 6 action || (action == 1 && not (is_reservable scope kind))
+has_bad_field _ = false
+
+-- how many bytes of data-out the CDB announces
+abbrev pub announced : Command → ℕ
+announced (ReserveOut action scope kind list) = list
+announced _ = 0
+
+-- a parameter list has 24 bytes, since none with SPEC_I_PT is supported
+abbrev pub has_bad_length : Command → Bool
+has_bad_length (ReserveOut action scope kind list) = not (list == 24)
+has_bad_length _ = false
+
+-- SPEC_I_PT isn't supported, nor is ALL_TG_PT where a nexus registers
+abbrev pub has_bad_list : Command → OutList → Bool
+has_bad_list (ReserveOut action scope kind list) l = l.spec_i_pt || (l.all_tg_pt && (action == 0 || action == 6))
+has_bad_list _ l = false
+
+-- APTPL isn't supported yet
+abbrev pub asks_to_persist : Command → OutList → Bool
+asks_to_persist (ReserveOut action scope kind list) l = l.aptpl
+asks_to_persist _ l = false
+
+-- the order of refusals (this project's own): logical unit, unit attention, operation code, CDB fields, data length, parameter list
+abbrev pub checks : World → Nexus → ℕ → ℕ → List ℕ → Command → List ℕ → List (Option Answer)
+checks w n lun op cdb command sent =
+    refused_where (is_elsewhere lun op) w unsupported_unit
+    ∷ attention_check w n op (w.attentions n)
+    ∷ refused_where (not (is_served op)) w invalid_operation
+    ∷ refused_where (nat_lt (length cdb) (cdb_length op)) w invalid_field
+    ∷ refused_where (is_naca (cdb_length op - 1) cdb) w invalid_field
+    ∷ refused_where (has_bad_field command) w invalid_field
+    ∷ refused_where (not (length sent == announced command)) w list_length_error
+    ∷ refused_where (has_bad_length command) w list_length_error
+    ∷ refused_where (has_bad_list command (list_of sent)) w invalid_list
+    ∷ refused_where (asks_to_persist command (list_of sent)) w invalid_list
+    ∷ []
+
+-- the first check that applies gives the answer
+abbrev pub first_or : List (Option Answer) → Answer → Answer
+first_or [] last = last
+first_or (None ∷ others) last = first_or others last
+first_or (Some a ∷ others) last = a
+
+-- The commands, once no check applies
+
+-- sense data in the asked format
+abbrev pub sense_data : Bool → Code → List ℕ
+sense_data descriptor c = if descriptor then descriptor_sense c else fixed_sense (record { code = c; info = None })
+
+-- REQUEST SENSE hands out the attention that is reported first, which goes, whatever its allocation length
+abbrev pub hand_out : World → Nexus → Bool → ℕ → List Code → Answer
+hand_out w n descriptor allocation [] = answer w (good (take allocation (sense_data descriptor no_sense)))
+hand_out w n descriptor allocation (c ∷ cs) =
+    answer (record w { attentions = set_at w.attentions n cs }) (good (take allocation (sense_data descriptor c)))
+
+abbrev pub request_sense : World → Nexus → ℕ → Bool → ℕ → Answer
+request_sense w n lun descriptor allocation =
+    if lun == 0 then hand_out w n descriptor allocation (w.attentions n) else
+    answer w (good (take allocation (sense_data descriptor unsupported_unit)))
+
+-- PERSISTENT RESERVE IN: READ KEYS, READ RESERVATION, REPORT CAPABILITIES, READ FULL STATUS
+abbrev pub reserve_in_data : ℕ → Standing → List ℕ
+reserve_in_data action s =
+    if action == 0 then keys_reply s else
+    if action == 1 then reservation_reply s else
+    if action == 2 then capabilities_reply s else full_reply s
+
+-- PERSISTENT RESERVE OUT: only one that is accepted changes the world
 abbrev pub by_verdict : World → World → Verdict → Answer
 by_verdict w next Good = answer next (good [])
 by_verdict w next Conflict = answer w conflict
@@ -46,41 +167,21 @@ by_verdict w next (Bad c) = answer w (checking c)
 abbrev pub reserve_out : World → Nexus → Acted → Answer
 reserve_out w n a = by_verdict w (record w { standing = a.standing; attentions = told n a w.attentions }) a.verdict
 
--- the forms of command that are served yet, each with a whole CDB and NACA zero; bytes past the CDB's own length are ignored
+abbrev pub asked : ℕ → ℕ → ℕ → OutList → acts.ReserveOut
+asked action scope kind l =
+    record { action = action; scope = scope; kind = kind; key = l.key; action_key = l.action_key; aptpl = l.aptpl }
 
--- TEST UNIT READY
-abbrev pub is_test_unit_ready : List ℕ → List ℕ → Bool
-is_test_unit_ready cdb sent = operation_code cdb == 0x00 && not (nat_lt (length cdb) 6) && not (is_naca 5 cdb) && length sent == 0
+-- the other commands aren't served yet
+abbrev pub served : World → Nexus → ℕ → Command → List ℕ → Answer
+served w n lun TestUnitReady sent = answer w (good [])
+served w n lun (RequestSense descriptor allocation) sent = request_sense w n lun descriptor allocation
+served w n lun (ReserveIn action allocation) sent = answer w (good (take allocation (reserve_in_data action w.standing)))
+served w n lun (ReserveOut action scope kind list) sent = reserve_out w n (acted LIMIT w.standing n (asked action scope kind (list_of sent)))
+served w n lun _ sent = answer w (checking invalid_operation)
 
--- PERSISTENT RESERVE IN, READ KEYS
-abbrev pub is_read_keys : List ℕ → List ℕ → Bool
-is_read_keys cdb sent =
-    operation_code cdb == 0x5E && not (nat_lt (length cdb) 10) && not (is_naca 9 cdb) && service_action cdb == 0x00 && length sent == 0
-
--- PERSISTENT RESERVE OUT, REGISTER AND IGNORE EXISTING KEY with SPEC_I_PT, ALL_TG_PT and APTPL zero
-abbrev pub is_register_ignore : List ℕ → List ℕ → Bool
-is_register_ignore cdb sent =
-    operation_code cdb == 0x5F && not (nat_lt (length cdb) 10) && not (is_naca 9 cdb) && service_action cdb == 0x06
-    && reserve_out_length cdb == 24 && length sent == 24 && list_flags sent == 0
-
-unfoldable pub served : World → Nexus → ℕ → List ℕ → List ℕ → Answer
-served w n lun cdb sent =
-    if not (lun == 0) then answer w (checking invalid_operation) else
-    if is_test_unit_ready cdb sent then answer w (good []) else
-    if is_read_keys cdb sent then answer w (good (take (reserve_in_allocation cdb) (keys_reply w.standing))) else
-    if is_register_ignore cdb sent then reserve_out w n (register LIMIT w.standing n (list_action_key sent) false) else
-    answer w (checking invalid_operation)
-
--- INQUIRY, REPORT LUNS and REQUEST SENSE don't report a unit attention (SAM-5)
-abbrev pub passes_attention : ℕ → Bool
-passes_attention op = op == 0x12 || op == 0xA0 || op == 0x03
-
--- a unit attention that waits is reported first, and goes
-abbrev pub by_attention : World → Nexus → ℕ → List Code → Answer → Answer
-by_attention w n op [] next = next
-by_attention w n op (c ∷ cs) next =
-    if passes_attention op then next else answer (record w { attentions = set_at w.attentions n cs }) (checking c)
+abbrev pub answered_by : World → Nexus → ℕ → ℕ → List ℕ → Command → List ℕ → Answer
+answered_by w n lun op cdb command sent = first_or (checks w n lun op cdb command sent) (served w n lun command sent)
 
 -- the medium has so many blocks
-abbrev pub answered : ℕ → World → Nexus → ℕ → List ℕ → List ℕ → Answer
-answered blocks w n lun cdb sent = by_attention w n (operation_code cdb) (w.attentions n) (served w n lun cdb sent)
+unfoldable pub answered : ℕ → World → Nexus → ℕ → List ℕ → List ℕ → Answer
+answered blocks w n lun cdb sent = answered_by w n lun (operation_code cdb) cdb (command_of (operation_code cdb) cdb) sent

@@ -1,10 +1,10 @@
 -- Whole runs: the records of a schedule act one after another, and lanes take turns (this project's own).
 use Rattle.std.specs.Prelude.{◌≡◌, ℕ, zero, suc, ◌<◌, ◌≤◌, List, [], ◌∷◌, ◌++◌, length, slice_get, slice_set, Some}
-use Rattle.pr_grammar.specs.Schedules.{Record, Arrival, Step_of, lane_of}
+use Rattle.pr_grammar.specs.Schedules.{Record, Arrival, Step_of, Close_of, lane_of}
 use Rattle.pr_grammar.specs.Outputs.{output_of}
 use Rattle.pr_model.specs.Limits.{HELD}
-use Rattle.pr_model.specs.Entries.{Out, History, entry}
-use Rattle.pr_model.specs.Lanes.{Lane, Turn, Idle, Silent, Asks, turn, arrived}
+use Rattle.pr_model.specs.Entries.{Logout, Out, Left, History, entry}
+use Rattle.pr_model.specs.Lanes.{Phase, In, Lane, fresh, Turn, Idle, Silent, Asks, turn, arrived}
 
 -- what was done: the entries made, and the bytes written
 pub record Deed : Type 0 where
@@ -39,15 +39,26 @@ TakesTurns (suc turns) who l d m =
     (HELD < length l.bytes)
     × ((first : Deed) × (mid : Lane) × (rest : Deed) × TakesTurn who l first mid × TakesTurns turns who mid rest m × (d ≡ joined first rest))
 
+-- where a connection is closed, a nexus that is logged in is logged out without a reply
+abbrev pub closing : ℕ → Phase → History
+closing who (In n) = entry who n Logout Left ∷ []
+closing who _ = []
+
+-- the lane of a closed connection is fresh
+abbrev pub Closes : ℕ → Lane → Deed → Lane → Type 0
+Closes who l d m = (d ≡ deed (closing who l.phase) []) × (m ≡ fresh)
+
 -- what a record does on its lane, or has done of it after some of its turns
 abbrev pub BeginsRecord : Record → Lane → Deed → Lane → Type 0
 BeginsRecord (Arrival who bytes) l d m = (turns : ℕ) × TakesTurns turns who (arrived l bytes) d m
 BeginsRecord (Step_of who) l d m = TakesTurn who l d m
+BeginsRecord (Close_of who) l d m = Closes who l d m
 
 -- all that a record does: bytes that arrive are held at its end
 abbrev pub RunsRecord : Record → Lane → Deed → Lane → Type 0
 RunsRecord (Arrival who bytes) l d m = ((turns : ℕ) × TakesTurns turns who (arrived l bytes) d m) × (length m.bytes ≤ HELD)
 RunsRecord (Step_of who) l d m = TakesTurn who l d m
+RunsRecord (Close_of who) l d m = Closes who l d m
 
 -- the record acts on the lane of its number, whose place among the lanes that is
 abbrev pub ActsOn : (Record → Lane → Deed → Lane → Type 0) → Record → List Lane → Deed → List Lane → Type 0

@@ -4,14 +4,16 @@
 //! function is a law of the definitions, and says it in its contract.
 #![tactic(auto)]
 
-ghost use Rattle.std.specs.Prelude.{◌≡◌, ℕ, ◌≤◌, not, true, []};
+ghost use Rattle.std.specs.Prelude.{◌≡◌, ℕ, ◌≤◌, ◌⊎◌, not, true, [], Some};
 ghost use Rattle.pr_words.specs.declared.nexus.Nexus.{Nexus};
-ghost use Rattle.pr_grammar.specs.Standings.{Standing};
+ghost use Rattle.pr_words.specs.declared.code.Code.{Code};
+ghost use Rattle.pr_grammar.specs.Standings.{Standing, is_registered};
 ghost use Rattle.pr_model.specs.Registrants.{IsAscending, IsWellFormed};
-ghost use Rattle.pr_model.specs.Acts.{Acted, Good, ReserveOut, acted, preempt};
+ghost use Rattle.pr_model.specs.Acts.{Acted, Good, Bad, ReserveOut, acted, preempt};
 ghost use Rattle.pr_model.specs.Cases.{Case, Applies, Preempts};
 ghost use Rattle.pr_model.specs.Effects.{Rule, IsRule, Acts};
-ghost use Rattle.pr_model.specs.Laws.{BytesWait};
+ghost use Rattle.pr_model.specs.Attentions.{is_attention};
+ghost use Rattle.pr_model.specs.Laws.{BytesWait, ChangesNothing, HasOneOutcome};
 ghost use Rattle.pr_model.specs.Keeping.{Kept, kept, same_kept, keeps_by, looks_same, same_reservation};
 
 /// Of each PREEMPT exactly one case applies, and it has exactly one answer, which `preempt` is.
@@ -56,6 +58,26 @@ pub fn same_kept_is_equality()
 #[tactic(auto, using(crate::proofs::Refusals::refused_stays))]
 pub fn a_refusal_changes_nothing()
     ensures { (limit : ℕ) (s : Standing) (n : Nexus) (o : ReserveOut) → ((acted limit s n o).verdict ≡ Good → ⊥) → ((acted limit s n o).standing ≡ s) × ((acted limit s n o).removed ≡ []) }
+{}
+
+/// An act removes none but registered nexuses, registers none but its caller, tells of unit attention
+/// conditions, and refuses with RESERVATION CONFLICT or ILLEGAL REQUEST.
+pub fn whom_an_act_reaches()
+    ensures registered { (limit : ℕ) (s : Standing) (n : Nexus) (o : ReserveOut) (m : Nexus) → is_registered (acted limit s n o).standing.pairs m ≡ true → (is_registered s.pairs m ≡ true) ⊎ (m ≡ n) }
+    ensures removed { (limit : ℕ) (s : Standing) (n : Nexus) (o : ReserveOut) (m : Nexus) → is_registered (acted limit s n o).removed m ≡ true → is_registered s.pairs m ≡ true }
+    ensures removed_code { (limit : ℕ) (s : Standing) (n : Nexus) (o : ReserveOut) (c : Code) → (acted limit s n o).removed_code ≡ Some c → is_attention c ≡ true }
+    ensures stay_code { (limit : ℕ) (s : Standing) (n : Nexus) (o : ReserveOut) (c : Code) → (acted limit s n o).stay_code ≡ Some c → is_attention c ≡ true }
+    ensures refusal { (limit : ℕ) (s : Standing) (n : Nexus) (o : ReserveOut) (c : Code) → (acted limit s n o).verdict ≡ Bad c → c.key ≡ 5 }
+{}
+
+/// A refused command changes nothing, but that a unit attention which is reported goes.
+pub fn a_refused_command_changes_nothing()
+    ensures { ChangesNothing }
+{}
+
+/// Of a command there is exactly one outcome.
+pub fn a_command_has_one_outcome()
+    ensures { HasOneOutcome }
 {}
 
 /// Bytes that wait behind a full buffer change no turn: they go on waiting behind what is left.
