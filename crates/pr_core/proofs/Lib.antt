@@ -1,3 +1,7 @@
-pub mod SeatLaws
+pub mod SlotLaws
+pub mod StateLaws
 pub mod Entering
-pub mod Serving
+pub mod Checking
+pub mod Sitting
+pub mod Admitting
+pub mod Reserving

@@ -1,3 +1,7 @@
+pub mod Slots
 pub mod Seats
+pub mod Telling
 pub mod Outs
+pub mod States
+pub mod Admits
 pub mod View

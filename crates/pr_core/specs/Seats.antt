@@ -1,57 +1,45 @@
--- The world for which the core's state stands.
-use Rattle.std.specs.Prelude.{◌≡◌, ℕ, Bool, true, false, List, [], ◌∷◌, Option, Some, None, if◌then◌else◌}
+-- The known nexuses as the core holds them.
+use Rattle.std.specs.Prelude.{◌≡◌, ℕ, List, [], ◌∷◌, length, Option, Some, None, is_some, drop}
+use Rattle.slab.specs.Slab.{slab_len}
 use Rattle.pr_words.specs.declared.nexus.Nexus.{Nexus}
-use Rattle.pr_words.specs.declared.nexus.Key.{Key}
-use Rattle.pr_words.specs.declared.nexus.Pair.{Pair}
 use Rattle.pr_words.specs.declared.code.Code.{Code}
-use Rattle.pr_words.specs.declared.reservation.Reservation.TheVariants.{Free}
-use Rattle.pr_words.specs.Orders.{same_nexus}
 use Rattle.pr_model.specs.Attentions.{powered_on}
-use Rattle.pr_model.specs.Worlds.{World, set_at}
+use Rattle.pr_model.specs.Worlds.{is_known}
 use Rattle.pr_core.specs.declared.seats.Seat.{Seat}
-use Rattle.pr_core.specs.declared.seats.State.{State}
+use Rattle.pr_core.specs.declared.seats.Seats.{Seats}
+use Rattle.pr_core.specs.Slots.{seat_in}
 
-abbrev pub pairs_at : Nexus → Option Key → List Pair
-pairs_at n None = []
-pairs_at n (Some k) = record { nexus = n; key = k } ∷ []
+-- crates above, and the core, cite these words and don't look into them
 
-abbrev pub pairs_of : Option Seat → List Pair
-pairs_of None = []
-pairs_of (Some s) = pairs_at s.nexus s.key
+abbrev pub seat_of : Seats → Nexus → Option Seat
+seat_of seats n = seat_in seats.slab.slots n
 
-abbrev pub known_of : Option Seat → List Nexus
-known_of None = []
-known_of (Some s) = s.nexus ∷ []
+-- how many nexuses are known
+abbrev pub count_of : Seats → ℕ
+count_of seats = slab_len seats.slab
 
 -- a nexus that isn't known has the attention of the power-up
-abbrev pub attentions_of : Option Seat → Nexus → List Code
-attentions_of None n = powered_on ∷ []
-attentions_of (Some s) n = if same_nexus n s.nexus then (if s.fresh then powered_on ∷ [] else []) else powered_on ∷ []
+abbrev pub attentions_in : Option Seat → List Code
+attentions_in None = powered_on ∷ []
+attentions_in (Some s) = s.attentions
 
-abbrev pub owner_at : Option Seat → Nexus → Option ℕ
-owner_at None n = None
-owner_at (Some s) n = if same_nexus n s.nexus then s.owner else None
+abbrev pub owner_in : Option Seat → Option ℕ
+owner_in None = None
+owner_in (Some s) = s.owner
 
-abbrev pub world : State → World
-world s =
-    record {
-      standing = record { pairs = pairs_of s.seat; reservation = Free; generation = s.generation; preserve = s.preserve };
-      known = known_of s.seat;
-      attentions = attentions_of s.seat;
-      owner = owner_at s.seat;
-      task = λ _. None;
-      doubts = [];
-    }
+-- the seat after a login, a logout, and where its first attention was taken
 
--- the seat is this nexus's
-abbrev pub IsAt : Option Seat → Nexus → Type 0
-IsAt None n = ⊥
-IsAt (Some s) n = s.nexus ≡ n
+abbrev pub logged_in : ℕ → Nexus → Option Seat → Seat
+logged_in who n None = record { nexus = n; owner = Some who; attentions = powered_on ∷ [] }
+logged_in who n (Some s) = record { nexus = s.nexus; owner = Some who; attentions = s.attentions }
 
-abbrev pub IsSeated : State → Nexus → Type 0
-IsSeated s n = IsAt s.seat n
+abbrev pub logged_out : Seat → Seat
+logged_out s = record { nexus = s.nexus; owner = None; attentions = s.attentions }
 
--- whether an attention waited, and the world without it
-abbrev pub Takes : Bool → World → Nexus → World → Type 0
-Takes true w n v = (w.attentions n ≡ powered_on ∷ []) × (v ≡ record w { attentions = set_at w.attentions n [] })
-Takes false w n v = (w.attentions n ≡ []) × (v ≡ w)
+abbrev pub told_first : Seat → Seat
+told_first s = record { nexus = s.nexus; owner = s.owner; attentions = drop 1 s.attentions }
+
+-- the list has the nexuses that have a seat, each once
+pub record Lists (known : List Nexus) (seats : Seats) : Type 0 where
+  pub count : length known ≡ count_of seats
+  pub same : (n : Nexus) → is_known known n ≡ is_some (seat_of seats n)

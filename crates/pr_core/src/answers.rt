@@ -1,4 +1,4 @@
-ghost use Rattle.std.specs.Prelude.{◌≡◌, ℕ, List};
+ghost use Rattle.std.specs.Prelude.{◌≡◌, ◌<◌, ℕ, List, None};
 ghost use Rattle.pr_model.specs.Commands.{checking, good, code};
 ghost use Rattle.pr_core.specs.Outs.{out_of, IsProper};
 
@@ -27,10 +27,21 @@ impl CommandOut {
         }
     }
 
+    /// RESERVATION CONFLICT.
+    pub(crate) fn conflict() -> CommandOut
+        ensures { result ≡ CommandOut.Ended Status.ReservationConflict None 0 }
+    {
+        CommandOut::Ended {
+            status: Status::ReservationConflict,
+            sense: None,
+            len: 0,
+        }
+    }
+
     /// CHECK CONDITION, with a code.
     pub(crate) fn checking(code: Code) -> CommandOut
         ensures out { (buf : List ℕ) → out_of result buf ≡ checking code }
-        ensures proper { IsProper result }
+        ensures proper { code.key < 16 → IsProper result }
     {
         CommandOut::Ended {
             status: Status::CheckCondition,
@@ -38,4 +49,11 @@ impl CommandOut {
             len: 0,
         }
     }
+}
+
+/// Why a core couldn't be opened.
+#[derive(Clone, Copy, Debug, PartialEq, Eq)]
+pub enum OpenFault {
+    /// There was no memory for what it needs.
+    OutOfMemory,
 }

@@ -3,8 +3,10 @@
 
 mod answers;
 mod checks;
+mod commands;
 mod seats;
+mod state;
 mod target;
 
-pub use answers::CommandOut;
+pub use answers::{CommandOut, OpenFault};
 pub use target::Core;

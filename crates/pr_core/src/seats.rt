@@ -1,143 +1,182 @@
-ghost use Rattle.std.specs.Prelude.{◌≡◌, ℕ, List, Some, [], length, take, ◌≤◌, false};
-ghost use Rattle.pr_model.specs.Limits.{LIMIT};
-ghost use Rattle.pr_model.specs.Acts.{register};
-ghost use Rattle.pr_model.specs.Entries.{entry, Login, Logout, Login_code, Left};
-ghost use Rattle.pr_model.specs.Commands.{reserve_out, answer, good};
-ghost use Rattle.pr_model.specs.Histories.{Moves, Has};
-ghost use Rattle.pr_grammar.specs.InReplies.{keys_reply};
+ghost use Rattle.std.specs.Prelude.{◌≡◌, ◌⊎◌, ◌+◌, ◌<◌, ◌≤◌, ℕ, true, not, nat_lt, Some, None, is_some, IfOk, IfSome, IfNone, option_map, slice_get, if◌then◌else◌};
+ghost use Rattle.slab.specs.Slab.{get, slab_len};
+ghost use Rattle.pr_words.specs.declared.nexus.Nexus.{Nexus};
+ghost use Rattle.pr_model.specs.Limits.{KNOWN};
+ghost use Rattle.pr_model.specs.Worlds.{set_at};
+ghost use Rattle.pr_model.specs.Attentions.{is_attention};
+ghost use Rattle.pr_table.specs.Tables.{standing_of, removed_of};
+ghost use Rattle.pr_core.specs.Slots.{AreApart, StandsUnder};
+ghost use Rattle.pr_core.specs.Telling.{told_seat};
 
-use pr_words::{Key, Nexus};
+use pr_rules::Attentions;
+use pr_table::{Change, Table};
+use pr_words::{Code, Nexus, is_same};
+use slab::Slab;
+use std::alloc::{AllocError, Global};
+
+/// How many nexuses can be known.
+const MOST: usize = 256;
 
 /// A nexus that is known.
-#[derive(Clone, Copy, Debug)]
+#[derive(Drop)]
 pub struct Seat {
     pub nexus: Nexus,
     /// Who has it logged in.
     pub owner: Option<u64>,
-    /// Whether the attention of the power-up still waits.
-    pub fresh: bool,
-    pub key: Option<Key>,
+    /// The unit attentions that wait for it.
+    pub attentions: Attentions,
 }
 
-/// What the core knows of nexuses and registrations: one seat, until several connections are served.
-#[derive(Clone, Copy, Debug)]
-pub struct State {
-    pub seat: Option<Seat>,
-    pub generation: u32,
-    pub preserve: bool,
+/// The known nexuses. The memory of all is taken by `new`.
+#[derive(Drop)]
+pub struct Seats {
+    slab: Slab<Seat>,
+    ghost apart: { AreApart slab },
+    ghost within: { slab_len slab ≤ KNOWN },
+    ghost room: { KNOWN ≤ slab.capacity },
 }
 
-impl State {
-    ghost use Rattle.pr_core.specs.Seats.{world, IsSeated, known_of, owner_at, Takes};
-    ghost use Rattle.pr_model.specs.Worlds.{powered};
-    ghost use Rattle.pr_model.specs.Keeping.{Nothing};
+impl Seats {
+    ghost use Rattle.pr_core.specs.Seats.{seat_of, count_of, owner_in, attentions_in, logged_in, logged_out, told_first};
 
-    /// Nobody is known and nothing is registered.
-    pub fn powered() -> State
-        ensures { world result ≡ powered Nothing }
+    /// Nobody is known.
+    pub fn new(alloc: Global) -> Result<Seats, AllocError>
+        ensures { IfOk result (λ s. (seat_of s ≡ (λ n. None)) × (count_of s ≡ 0)) }
     {
-        State {
-            seat: None,
-            generation: 0,
-            preserve: false,
-        }
+        Ok(Seats {
+            slab: Slab::with_capacity(alloc, MOST)?,
+        })
     }
 
-    /// The code of the first refusal that applies, or 0.
-    #[tactic(auto, using(crate::proofs::SeatLaws::seat_laws))]
-    pub fn login(&mut self, who: u64, version: u8, nexus: Nexus) -> u8
-        requires { known_of self.old.seat ≡ [] }
-        ensures moves { (blocks : ℕ) → Moves blocks (world self.old) (entry who nexus (Login version) (Login_code result)) (world self.new) }
-        ensures accepted { result ≡ 0 → owner_at self.new.seat nexus ≡ Some who }
-        ensures refused { (result ≡ 0 → ⊥) → self.new ≡ self.old }
+    /// Under which key the seat of a nexus stands.
+    fn find(&self, nexus: Nexus) -> Option<usize>
+        ensures found { IfSome result (λ key. StandsUnder self.now.slab nexus key) }
+        ensures absent { IfNone result (seat_of self.now nexus ≡ None) }
     {
-        if version != 1 {
-            return 4;
-        }
-        if nexus.port == 0 || nexus.port > 16 {
-            return 2;
-        }
-        self.seat = Some(Seat {
-            nexus,
-            owner: Some(who),
-            fresh: true,
-            key: None,
-        });
-        0
-    }
-
-    #[tactic(auto, using(crate::proofs::SeatLaws::seat_laws))]
-    pub fn logout(&mut self, who: u64, nexus: Nexus)
-        requires { owner_at self.old.seat nexus ≡ Some who }
-        ensures { (blocks : ℕ) → Moves blocks (world self.old) (entry who nexus Logout Left) (world self.new) }
-    {
-        if let Some(seat) = &mut self.seat {
-            seat.owner = None;
-        }
-    }
-
-    /// Takes the attention of the power-up, if it waits.
-    pub fn take_attention(&mut self, nexus: Nexus) -> bool
-        requires { IsSeated self.old nexus }
-        ensures takes { Takes result (world self.old) nexus (world self.new) }
-        ensures owner { owner_at self.new.seat ≡ owner_at self.old.seat }
-        ensures seated { IsSeated self.new nexus }
-    {
-        match &mut self.seat {
-            Some(seat) if seat.fresh => {
-                seat.fresh = false;
-                true
+        for (key, seat) in self.slab.iter() {
+            if is_same(&seat.nexus, &nexus) {
+                return Some(key);
             }
-            _ => false,
         }
+        None
     }
 
-    /// REGISTER AND IGNORE EXISTING KEY with an APTPL bit of zero.
-    #[tactic(auto, using(crate::proofs::SeatLaws::seat_laws))]
-    pub fn register(&mut self, nexus: Nexus, key: u64)
-        requires { IsSeated self.old nexus }
-        ensures answer { reserve_out (world self.old) nexus (register LIMIT (world self.old).standing nexus key false) ≡ answer (world self.new) (good []) }
-        ensures owner { owner_at self.new.seat ≡ owner_at self.old.seat }
+    /// Whether no further nexus can be known.
+    pub fn is_full(&self) -> bool
+        ensures { result ≡ not (nat_lt (count_of self.now) KNOWN) }
     {
-        if let Some(seat) = &mut self.seat {
-            if key == 0 && seat.key.is_none() {
-                return;
+        self.slab.len() >= MOST
+    }
+
+    /// Whether a nexus is known.
+    pub fn is_known(&self, nexus: Nexus) -> bool
+        ensures { result ≡ is_some (seat_of self.now nexus) }
+    {
+        self.find(nexus).is_some()
+    }
+
+    /// Who has a nexus logged in.
+    pub fn owner(&self, nexus: Nexus) -> Option<u64>
+        ensures { result ≡ owner_in (seat_of self.now nexus) }
+    {
+        let key = self.find(nexus)?;
+        self.slab.get(key)?.owner
+    }
+
+    /// A nexus is logged in, and known from then on.
+    pub fn log_in(&mut self, who: u64, nexus: Nexus)
+        requires { is_some (seat_of self.old nexus) ≡ true ⊎ count_of self.old < KNOWN }
+        ensures seat { seat_of self.new ≡ set_at (seat_of self.old) nexus (Some (logged_in who nexus (seat_of self.old nexus))) }
+        ensures count { count_of self.new ≡ (if is_some (seat_of self.old nexus) then count_of self.old else count_of self.old + 1) }
+    {
+        match self.find(nexus) {
+            Some(key) => {
+                if let Some(seat) = self.slab.get_mut(key) {
+                    seat.owner = Some(who);
+                }
             }
-            seat.key = if key == 0 { None } else { Some(Key(key)) };
-            self.generation = self.generation.wrapping_add(1);
-            self.preserve = false;
+            None => {
+                self.slab.insert_reserved(Seat {
+                    nexus,
+                    owner: Some(who),
+                    attentions: Attentions::fresh(),
+                });
+            }
         }
     }
 
-    /// The data of READ KEYS, and its length.
-    fn keys_data(&self) -> ([u8; 16], usize)
-        ensures size { result.1 ≤ 16 }
-        ensures bytes { take result.1 result.0 ≡ keys_reply (world self.now).standing }
+    /// A nexus is logged out.
+    pub fn log_out(&mut self, nexus: Nexus)
+        ensures seat { seat_of self.new ≡ set_at (seat_of self.old) nexus (option_map logged_out (seat_of self.old nexus)) }
+        ensures count { count_of self.new ≡ count_of self.old }
     {
-        let g = self.generation.to_be_bytes();
-        let none = [g[0], g[1], g[2], g[3], 0, 0, 0, 0, 0, 0, 0, 0, 0, 0, 0, 0];
-        let Some(seat) = &self.seat else {
-            return (none, 8);
-        };
-        let Some(key) = &seat.key else {
-            return (none, 8);
-        };
-        let k = key.0.to_be_bytes();
-        let data = [
-            g[0], g[1], g[2], g[3], 0, 0, 0, 8, k[0], k[1], k[2], k[3], k[4], k[5], k[6], k[7],
-        ];
-        (data, 16)
+        if let Some(key) = self.find(nexus) {
+            if let Some(seat) = self.slab.get_mut(key) {
+                seat.owner = None;
+            }
+        }
     }
 
-    /// Writes the first `allocation` bytes of the data of READ KEYS, and says how many these are.
-    pub fn write_keys(&self, allocation: usize, buf: &mut [u8]) -> usize
-        requires { 16 ≤ length buf.old }
-        ensures within { result ≤ 16 }
-        ensures bytes { take result buf.new ≡ take allocation (keys_reply (world self.now).standing) }
+    /// Takes the attention of a known nexus that is reported first.
+    pub fn take_attention(&mut self, nexus: Nexus) -> Option<Code>
+        requires { is_some (seat_of self.old nexus) ≡ true }
+        ensures first { result ≡ slice_get (attentions_in (seat_of self.old nexus)) 0 }
+        ensures known { IfSome result (λ c. is_attention c ≡ true) }
+        ensures seat { seat_of self.new ≡ set_at (seat_of self.old) nexus (option_map told_first (seat_of self.old nexus)) }
+        ensures count { count_of self.new ≡ count_of self.old }
     {
-        let data = self.keys_data();
-        let len = data.1.min(allocation);
-        buf[..len].copy_from_slice(&data.0[..len]);
-        len
+        let key = self.find(nexus)?;
+        self.slab.get_mut(key)?.attentions.take()
+    }
+
+    /// Raises the attentions of a PERSISTENT RESERVE OUT that the table has served last.
+    pub fn tell(&mut self, caller: Nexus, table: &Table, change: &Change)
+        requires stay { (c : Code) → change.now.stay_code ≡ Some c → is_attention c ≡ true }
+        requires gone { (c : Code) → change.now.removed_code ≡ Some c → is_attention c ≡ true }
+        ensures seat { seat_of self.new ≡ (λ n. option_map (told_seat caller (standing_of table.now).pairs change.now.stay_code (removed_of table.now) change.now.removed_code) (seat_of self.old n)) }
+        ensures count { count_of self.new ≡ count_of self.old }
+    {
+        if change.stay_code.is_none() && change.removed_code.is_none() {
+            return;
+        }
+        tell_each(&mut self.slab, caller, table, change);
+    }
+}
+
+/// Raises what the nexus of each seat is told.
+fn tell_each(slab: &mut Slab<Seat>, caller: Nexus, table: &Table, change: &Change)
+    requires stay { (c : Code) → change.now.stay_code ≡ Some c → is_attention c ≡ true }
+    requires gone { (c : Code) → change.now.removed_code ≡ Some c → is_attention c ≡ true }
+    ensures told { (key : ℕ) → get slab.new key ≡ option_map (told_seat caller (standing_of table.now).pairs change.now.stay_code (removed_of table.now) change.now.removed_code) (get slab.old key) }
+    ensures len { slab_len slab.new ≡ slab_len slab.old }
+    ensures capacity { slab.new.capacity ≡ slab.old.capacity }
+{
+    for key in 0..slab.capacity() {
+        if let Some(seat) = slab.get_mut(key) {
+            seat.tell(caller, table, change);
+        }
+    }
+}
+
+impl Seat {
+    /// Raises what its nexus is told.
+    fn tell(&mut self, caller: Nexus, table: &Table, change: &Change)
+        requires stay { (c : Code) → change.now.stay_code ≡ Some c → is_attention c ≡ true }
+        requires gone { (c : Code) → change.now.removed_code ≡ Some c → is_attention c ≡ true }
+        ensures { self.new ≡ told_seat caller (standing_of table.now).pairs change.now.stay_code (removed_of table.now) change.now.removed_code self.old }
+    {
+        if is_same(&self.nexus, &caller) {
+            return;
+        }
+        if let Some(code) = change.removed_code
+            && table.was_removed(self.nexus)
+        {
+            self.attentions.raise(code);
+        }
+        if let Some(code) = change.stay_code
+            && table.is_registered(self.nexus)
+        {
+            self.attentions.raise(code);
+        }
     }
 }

@@ -1,16 +1,14 @@
-ghost use Rattle.std.specs.Prelude.{◌≡◌, ◌<◌, ◌≤◌, ◌∷◌, [], ℕ, List, Some, length, take};
-ghost use Rattle.pr_model.specs.Worlds.{World, powered};
+ghost use Rattle.std.specs.Prelude.{◌≡◌, ◌<◌, ◌≤◌, ◌∷◌, [], Some, IfOk, IfErr, length, take};
+ghost use Rattle.pr_model.specs.Worlds.{powered};
 ghost use Rattle.pr_model.specs.Keeping.{Nothing};
 ghost use Rattle.pr_model.specs.Entries.{entry, Login, Command, Logout, Login_code, Left};
-ghost use Rattle.pr_model.specs.Commands.{answered, served};
-ghost use Rattle.pr_core.specs.Seats.{world, IsSeated, owner_at};
 ghost use Rattle.pr_core.specs.Outs.{out_of, IsProper};
 
-use crate::CommandOut;
-use crate::checks::{is_ignoring, is_keys, is_test, passes};
-use crate::seats::State;
+use crate::answers::{CommandOut, OpenFault};
+use crate::state::State;
 use pr_io::{Disk, Medium};
-use pr_words::{Code, Nexus, get_u16, get_u64};
+use pr_words::Nexus;
+use std::alloc::Global;
 
 /// A target over a medium and a disk.
 #[derive(Drop)]
@@ -21,53 +19,49 @@ pub struct Core<M: Medium, D: Disk> {
     state: State,
 }
 
-/// POWER ON, RESET, OR BUS DEVICE RESET OCCURRED (SPC-4).
-const POWERED_ON: Code = Code {
-    key: 6,
-    asc: 0x29,
-    ascq: 0,
-};
-
-/// INVALID COMMAND OPERATION CODE (SPC-4).
-const INVALID_OPERATION: Code = Code {
-    key: 5,
-    asc: 0x20,
-    ascq: 0,
-};
-
 impl<M: Medium, D: Disk> Core<M, D> {
-    ghost use Rattle.pr_core.specs.View.{StandsFor, blocks_of, owner_of, known_to, Extends};
+    ghost use Rattle.pr_core.specs.View.{StandsFor, blocks_of, owner_of, KeepsOthers, Extends};
 
-    /// The target after a power-up that restored nothing. Medium and disk aren't touched.
-    pub fn open(medium: M, disk: D) -> Core<M, D>
-        ensures stands { StandsFor result (powered Nothing) }
-        ensures blocks { blocks_of result ≡ M.count medium }
-        ensures nobody { known_to result ≡ [] }
+    /// The target after a power-up that restored nothing. All memory is taken here: of 64
+    /// registrations and of 256 known nexuses. Medium and disk aren't touched.
+    ///
+    /// # Errors
+    ///
+    /// Want of memory, with the parts handed back.
+    pub fn open(alloc: Global, medium: M, disk: D) -> Result<Core<M, D>, (OpenFault, M, D)>
+        ensures stands { IfOk result (λ c. StandsFor c (powered Nothing)) }
+        ensures blocks { IfOk result (λ c. blocks_of c ≡ M.count medium) }
+        ensures parts { IfErr result (λ e. (e.1 ≡ medium) × (e.2 ≡ disk)) }
     {
         let blocks = medium.blocks();
-        Core {
-            medium,
-            disk,
-            blocks,
-            state: State::powered(),
+        match State::new(alloc) {
+            Ok(state) => Ok(Core {
+                medium,
+                disk,
+                blocks,
+                state,
+            }),
+            Err(_) => Err((OpenFault::OutOfMemory, medium, disk)),
         }
     }
 
-    /// A Login of link version `version`: 0 where it is accepted, else the first of the codes
-    /// 4 (the version isn't 1) and 2 (the port isn't 1 to 16) that applies.
+    /// A Login of link version `version`: 0 where it is accepted, else the first of these codes
+    /// that applies: 4, the version isn't 1; 2, the port isn't 1 to 16; 1, the nexus is logged in;
+    /// 3, it isn't known and 256 others are.
     pub fn login(&mut self, who: u64, version: u8, nexus: Nexus) -> u8
-        requires { known_to self.old ≡ [] }
         ensures entry { Extends self.old self.new (entry who nexus (Login version) (Login_code result) ∷ []) }
         ensures accepted { result ≡ 0 → owner_of self.new nexus ≡ Some who }
         ensures refused { (result ≡ 0 → ⊥) → self.new ≡ self.old }
+        ensures others { KeepsOthers who self.old self.new }
     {
         self.state.login(who, version, nexus)
     }
 
-    /// The nexus is logged out. Its registration stays.
+    /// The nexus is logged out. Its registration stays, and it stays known.
     pub fn logout(&mut self, who: u64, nexus: Nexus)
         requires { owner_of self.old nexus ≡ Some who }
-        ensures { Extends self.old self.new (entry who nexus Logout Left ∷ []) }
+        ensures entry { Extends self.old self.new (entry who nexus Logout Left ∷ []) }
+        ensures others { KeepsOthers who self.old self.new }
     {
         self.state.logout(who, nexus);
     }
@@ -91,66 +85,6 @@ impl<M: Medium, D: Disk> Core<M, D> {
         ensures owner { owner_of self.new ≡ owner_of self.old }
         ensures proper { IsProper result }
     {
-        answer(&mut self.state, nexus, lun, cdb, buf, out_len)
+        self.state.command(nexus, lun, cdb, buf, out_len)
     }
-}
-
-/// A unit attention that waits is reported first.
-fn answer(
-    state: &mut State,
-    nexus: Nexus,
-    lun: u16,
-    cdb: &[u8],
-    buf: &mut [u8],
-    out_len: usize,
-) -> CommandOut
-    requires seated { IsSeated state.old nexus }
-    requires cdb { 0 < length cdb.now }
-    requires room { 524288 ≤ length buf.old }
-    requires sent { out_len ≤ length buf.old }
-    ensures out { (blocks : ℕ) → out_of result buf.new ≡ (answered blocks (world state.old) nexus lun cdb.now (take out_len buf.old)).out }
-    ensures world { (blocks : ℕ) → world state.new ≡ (answered blocks (world state.old) nexus lun cdb.now (take out_len buf.old)).world }
-    ensures owner { owner_at state.new.seat ≡ owner_at state.old.seat }
-    ensures proper { IsProper result }
-{
-    if !passes(cdb[0]) && state.take_attention(nexus) {
-        return CommandOut::checking(POWERED_ON);
-    }
-    serve(state, nexus, lun, cdb, buf, out_len)
-}
-
-/// The command itself.
-#[tactic(auto, unfolding(pr_model::specs::Commands::served))]
-fn serve(
-    state: &mut State,
-    nexus: Nexus,
-    lun: u16,
-    cdb: &[u8],
-    buf: &mut [u8],
-    out_len: usize,
-) -> CommandOut
-    requires seated { IsSeated state.old nexus }
-    requires cdb { 0 < length cdb.now }
-    requires room { 524288 ≤ length buf.old }
-    requires sent { out_len ≤ length buf.old }
-    ensures out { out_of result buf.new ≡ (served (world state.old) nexus lun cdb.now (take out_len buf.old)).out }
-    ensures world { world state.new ≡ (served (world state.old) nexus lun cdb.now (take out_len buf.old)).world }
-    ensures owner { owner_at state.new.seat ≡ owner_at state.old.seat }
-    ensures proper { IsProper result }
-{
-    if lun != 0 {
-        return CommandOut::checking(INVALID_OPERATION);
-    }
-    if is_test(cdb, out_len) {
-        return CommandOut::good(0);
-    }
-    if is_keys(cdb, out_len) {
-        let allocation = get_u16(cdb, 7) as usize;
-        return CommandOut::good(state.write_keys(allocation, buf));
-    }
-    if is_ignoring(cdb, &buf[..out_len]) {
-        state.register(nexus, get_u64(&buf[..out_len], 8));
-        return CommandOut::good(0);
-    }
-    CommandOut::checking(INVALID_OPERATION)
 }

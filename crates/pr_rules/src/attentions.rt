@@ -1,4 +1,4 @@
-ghost use Rattle.std.specs.Prelude.{◌≡◌, [], ◌∷◌, take, drop, slice_get, false, true};
+ghost use Rattle.std.specs.Prelude.{◌≡◌, [], ◌∷◌, take, drop, slice_get, false, true, IfSome};
 ghost use Rattle.std.specs.List.{list_any};
 ghost use Rattle.pr_model.specs.Attentions.{powered_on, same_code, with_code, is_attention, AreAttentions};
 
@@ -72,6 +72,7 @@ impl Attentions {
     pub fn take(&mut self) -> Option<Code>
         ensures first { result ≡ slice_get self.old 0 }
         ensures rest { self.new ≡ drop 1 self.old }
+        ensures known { IfSome result (λ c. is_attention c ≡ true) }
     {
         if self.len == 0 {
             return None;

@@ -148,15 +148,18 @@ impl Table {
         ensures keeps { Keeps result (standing_of self.old) (standing_of self.new) }
         ensures abort { Aborts result action.now.action }
         ensures limit { limit_of self.new ≡ limit_of self.old }
+        ensures within { length (standing_of self.new).pairs ≤ limit_of self.new }
     {
         let note = self.note(nexus);
-        match self.decide(nexus, action, list) {
+        let verdict = self.decide(nexus, action, list);
+        let keeps = self.keeps(&note, nexus);
+        match verdict {
             Verdict::Good(change) => Verdict::Good(Change {
                 removed: change.removed,
                 removed_code: change.removed_code,
                 stay_code: change.stay_code,
                 abort: action.action == 5,
-                keeps: self.keeps(&note, nexus),
+                keeps,
             }),
             Verdict::Conflict => Verdict::Conflict,
             Verdict::Bad(code) => Verdict::Bad(code),
@@ -177,7 +180,8 @@ impl Table {
 
     /// Whether something else outlives a power loss than when the note was taken.
     fn keeps(&self, note: &Note, nexus: Nexus) -> bool
-        ensures { (s : Standing) → Notes note.now s nexus → result ≡ keeps_by s.preserve (standing_of self.now).preserve (looks_same s.pairs (standing_of self.now).pairs nexus) (same_reservation s.reservation (standing_of self.now).reservation) }
+        ensures within { length (standing_of self.now).pairs ≤ limit_of self.now }
+        ensures keeps { (s : Standing) → Notes note.now s nexus → result ≡ keeps_by s.preserve (standing_of self.now).preserve (looks_same s.pairs (standing_of self.now).pairs nexus) (same_reservation s.reservation (standing_of self.now).reservation) }
     {
         let pairs = note.count == self.pairs.len() && is_same_key(note.key, self.key_of(nexus));
         let reservation = is_same_reservation(&note.reservation, &self.reservation);

@@ -3,4 +3,4 @@ use Rattle.pr_core.proofs.Entering.{extends_one}
 use Rattle.pr_core.proofs.target.Core.login.Goals as goal
 
 pub returns-clause-entry : goal.returns-clause-entry
-returns-clause-entry g c = extends_one _ _ _ refl (c.login.ensures.moves c.args.self.now.blocks)
+returns-clause-entry g c = extends_one _ _ _ refl c.login.ensures.makes
