@@ -1,5 +1,5 @@
 -- A reply that stands in the work buffer.
-use Rattle.std.proofs.Common.{◌≡◌, ℕ, ◌+◌, ◌≤◌, List, [], ◌++◌, length, take, drop, Some, None, refl, sym, ap, ◌∙◌, arith, append_assoc}
+use Rattle.std.proofs.Common.{◌≡◌, ℕ, ◌+◌, ◌<◌, ◌≤◌, List, [], ◌++◌, length, take, drop, Some, None, refl, sym, ap, ◌∙◌, arith, append_assoc}
 use Rattle.std.proofs.lemmas.List.{take_at, length-append, length-take, take-append-drop}
 use Rattle.pr_words.specs.declared.nexus.Nexus.{Nexus}
 use Rattle.pr_words.specs.declared.code.Sense.{Sense}
@@ -31,7 +31,7 @@ answer_lane n f rest place (outs.Ended status sense len) buf = refl
 -- sense comes with CHECK CONDITION and without data-in
 pub with_sense : (s : Status) (sense : Sense) (len : ℕ) (buf : List ℕ) → IsProperly s (Some sense) len → command_reply s (Some sense) (take len buf) ≡ command_reply status.CheckCondition (Some sense) []
 with_sense status.Good sense len buf p = absurd p
-with_sense status.CheckCondition sense len buf p = ap (λ (n : ℕ). command_reply status.CheckCondition (Some sense) (take n buf)) p
+with_sense status.CheckCondition sense len buf p = ap (λ (n : ℕ). command_reply status.CheckCondition (Some sense) (take n buf)) p.0
 with_sense status.ReservationConflict sense len buf p = absurd p
 with_sense status.TaskAborted sense len buf p = absurd p
 
@@ -40,3 +40,9 @@ within_room status.Good len p = p
 within_room status.CheckCondition len p = absurd p
 within_room status.ReservationConflict len p = omega (arith, p)
 within_room status.TaskAborted len p = omega (arith, p)
+
+pub sense_key : (s : Status) (sense : Sense) (len : ℕ) → IsProperly s (Some sense) len → sense.code.key < 16
+sense_key status.Good sense len p = absurd p
+sense_key status.CheckCondition sense len p = p.1
+sense_key status.ReservationConflict sense len p = absurd p
+sense_key status.TaskAborted sense len p = absurd p

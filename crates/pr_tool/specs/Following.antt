@@ -1,5 +1,5 @@
 -- A session and a core that go on together.
-use Rattle.std.specs.Prelude.{◌≡◌, ℕ, ◌+◌, ◌-◌, ◌%◌, ◌^◌, List, [], take, length, min, Some, None}
+use Rattle.std.specs.Prelude.{◌≡◌, ℕ, ◌+◌, ◌-◌, ◌%◌, ◌^◌, List, [], take, length, min, slice_get, Some, None}
 use Rattle.pr_words.specs.declared.nexus.Side.TheVariants.{Target}
 use Rattle.pr_grammar.specs.Frames.{Front, Short, Broken, Whole, frame_size}
 use Rattle.pr_model.specs.Limits.{HELD}
@@ -7,16 +7,20 @@ use Rattle.pr_model.specs.Entries.{History}
 use Rattle.pr_model.specs.Lanes.{Lane, Phase, Fresh, In, Dead, Turn}
 use Rattle.pr_model.specs.Runs.{Makes}
 use Rattle.pr_core.specs.declared.target.Core.{Core}
-use Rattle.pr_core.specs.View.{owner_of, known_to, Extends}
+use Rattle.pr_core.specs.View.{owner_of, Extends}
 use Rattle.pr_link.specs.Streams.{Stream, IsProper, frame_of}
 use Rattle.pr_link.specs.declared.frame.Got.{Got}
 use Rattle.pr_link.specs.declared.frame.Got.TheVariants as got
 
 -- the core has the session's nexus logged in
 abbrev pub Agrees : {M D : Type 0} → Phase → ℕ → Core M D → Type 0
-Agrees Fresh who c = known_to c ≡ []
+Agrees Fresh who c = Unit {0}
 Agrees (In n) who c = owner_of c n ≡ Some who
 Agrees Dead who c = Unit {0}
+
+-- the core has each lane's nexus logged in by the number of its place
+abbrev pub AllAgree : {M D : Type 0} → List Lane → Core M D → Type 0
+AllAgree lanes c = (place : ℕ) (l : Lane) → slice_get lanes place ≡ Some l → Agrees l.phase place c
 
 -- a turn of a lane was made, by entries of the core
 pub record Follows {M D : Type 0} (who : ℕ) (old : Core M D) (l : Lane) (t : Turn) (new : Core M D) (m : Lane) (reply : List ℕ) : Type 0 where

@@ -5,4 +5,6 @@ pub mod Following
 pub mod Statuses
 pub mod Reading
 pub mod Exits
+pub mod Asking
 pub mod Stops
+pub mod Showing

@@ -1,9 +1,9 @@
 -- What the reading of one record of a schedule takes and gives (this project's own).
 use Rattle.std.specs.Prelude.{◌≡◌, ℕ, ◌<◌, ◌≤◌, ◌⊎◌, List, [], ◌++◌, length, take, Option, Some, None, Result, Ok, Err, Bool, true, false, if◌then◌else◌}
 use Rattle.pr_io.specs.Streams.{Took}
-use Rattle.pr_grammar.specs.Schedules.{Record, Arrival, Step_of, IsRecord, spelled_record, Partial, Faulty, record_front, IsUnfinished}
+use Rattle.pr_grammar.specs.Schedules.{Record, Arrival, Step_of, Close_of, IsRecord, spelled_record, Partial, Faulty, record_front, IsUnfinished}
 use Rattle.pr_tool.specs.declared.schedule.Record.{Record as Found}
-use Rattle.pr_tool.specs.declared.schedule.Record.TheVariants.{Arrival as Arrived, Step as Stepped}
+use Rattle.pr_tool.specs.declared.schedule.Record.TheVariants.{Arrival as Arrived, Step as Stepped, Close as Closed}
 use Rattle.pr_tool.specs.declared.schedule.End.{End}
 use Rattle.pr_tool.specs.declared.schedule.End.TheVariants.{Done, ReadFault, Broken, TooLong}
 
@@ -11,11 +11,13 @@ use Rattle.pr_tool.specs.declared.schedule.End.TheVariants.{Done, ReadFault, Bro
 abbrev pub record_of : Found → List ℕ → Record
 record_of (Arrived lane len) body = Arrival lane (take len body)
 record_of (Stepped lane) body = Step_of lane
+record_of (Closed lane) body = Close_of lane
 
 -- its bytes are within the buffer's front that a record may fill (this project's own)
 abbrev pub IsHeld : Found → Type 0
 IsHeld (Arrived lane len) = len ≤ 65535
 IsHeld (Stepped lane) = Unit {0}
+IsHeld (Closed lane) = Unit {0}
 
 -- where it is told, nothing is left (this project's own)
 abbrev pub IsAtEnd : Option (List ℕ) → Type 0

@@ -21,7 +21,7 @@ pub enum Exit {
     },
     /// There was no memory for what a run needs.
     NoMemory,
-    /// The schedule has more bytes than are looked at.
+    /// The input has more bytes than are looked at.
     TooLong,
 }
 
@@ -29,10 +29,10 @@ pub enum Exit {
 #[derive(Clone, Copy, Debug, PartialEq, Eq, Error)]
 pub enum Fault {
     /// The words of the command line make no command.
-    #[error("the words aren't `replay` and a number of lanes")]
+    #[error("the words are neither `show` nor `replay` and a number of lanes from 1 to 64")]
     Words,
     /// The input failed.
-    #[error("the schedule couldn't be read")]
+    #[error("the input couldn't be read")]
     Read,
     /// The output failed.
     #[error("the output couldn't be written")]
@@ -44,10 +44,10 @@ pub enum Fault {
         place: u64,
     },
     /// There was no memory for what a run needs.
-    #[error("no memory for the lanes")]
+    #[error("no memory for the run")]
     Memory,
-    /// The schedule has more bytes than are looked at.
-    #[error("the schedule is longer than 4294967296 bytes")]
+    /// The input has more bytes than are looked at.
+    #[error("the input is longer than 4294967296 bytes")]
     Length,
 }
 

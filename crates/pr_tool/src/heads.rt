@@ -1,13 +1,9 @@
 //! The first bytes of replies, behind room for the head of an output record.
 
-ghost use Rattle.std.specs.Prelude.{◌≡◌, ◌≤◌, ◌∷◌, ◌++◌, [], ℕ, List, Some, length, drop, vec_len};
-ghost use Rattle.pr_words.specs.declared.code.Status.TheVariants.{CheckCondition};
-ghost use Rattle.pr_grammar.specs.Senses.{fixed_format, information};
-ghost use Rattle.pr_grammar.specs.Bodies.{command_reply, reject};
+ghost use Rattle.std.specs.Prelude.{◌≡◌, ◌+◌, ◌≤◌, ◌++◌, [], ℕ, List, length, drop, vec_len};
+ghost use Rattle.pr_grammar.specs.Bodies.{reject};
 ghost use Rattle.pr_grammar.specs.Frames.{frame, spelled};
 ghost use Rattle.pr_tool.specs.Rooms.{roomed};
-
-use pr_words::Sense;
 
 /// A frame whose body is four bytes and then so many bytes of data, up to the data.
 pub fn reply_head(kind: u8, lun: u16, tag: u32, text: [u8; 4], len: usize) -> [u8; 20]
@@ -46,32 +42,6 @@ pub fn reject_head(reason: u8, place: u64) -> [u8; 28]
     ]
 }
 
-/// The INFORMATION of sense data, and the byte that says whether it is valid.
-fn information(info: Option<u32>) -> (u8, [u8; 4])
-    ensures format { result.0 ≡ fixed_format info }
-    ensures bytes { result.1 ≡ information info }
-{
-    match info {
-        None => (0x70, [0; 4]),
-        Some(n) => (0xF0, n.to_be_bytes()),
-    }
-}
-
-/// A Command reply of CHECK CONDITION, which has no data-in.
-pub fn sense_head(lun: u16, tag: u32, sense: Sense) -> [u8; 38]
-    ensures { result ≡ roomed (spelled (frame 0x82 lun tag (command_reply CheckCondition (Some sense) []))) }
-{
-    let unit = lun.to_be_bytes();
-    let mark = tag.to_be_bytes();
-    let (format, i) = information(sense.info);
-    let code = sense.code;
-    [
-        0, 0, 0, 0, 0, 0, 0, 30, 0x82, 0, unit[0], unit[1], mark[0], mark[1], mark[2], mark[3], 2,
-        18, 0, 0, format, 0, code.key, i[0], i[1], i[2], i[3], 0x0A, 0, 0, 0, 0, code.asc,
-        code.ascq, 0, 0, 0, 0,
-    ]
-}
-
 /// Writes the bytes over the first ones of the slice.
 fn copy_to_front(work: &mut [u8], head: &[u8])
     requires { length head.now ≤ length work.old }
@@ -87,4 +57,23 @@ pub fn write_front(work: &mut Vec<u8>, head: &[u8])
     ensures len { vec_len work.new ≡ vec_len work.old }
 {
     copy_to_front(work, head);
+}
+
+/// Writes both over the first bytes of the slice, one behind the other.
+fn copy_both(work: &mut [u8], head: &[u8], tail: &[u8])
+    requires { length head.now + length tail.now ≤ length work.old }
+    ensures { work.new ≡ head.now ++ tail.now ++ drop (length head.now + length tail.now) work.old }
+{
+    let (front, rest) = work.split_at_mut(head.len());
+    front.copy_from_slice(head);
+    copy_to_front(rest, tail);
+}
+
+/// Writes both over the first bytes of the buffer, one behind the other.
+pub fn write_both(work: &mut Vec<u8>, head: &[u8], tail: &[u8])
+    requires { length head.now + length tail.now ≤ vec_len work.old }
+    ensures bytes { work.new.items ≡ head.now ++ tail.now ++ drop (length head.now + length tail.now) work.old.items }
+    ensures len { vec_len work.new ≡ vec_len work.old }
+{
+    copy_both(work, head, tail);
 }

@@ -1,25 +1,26 @@
-ghost use Rattle.std.specs.Prelude.{◌≡◌, ◌+◌, ◌-◌, ◌≤◌, ◌<◌, ◌^◌, ◌↔◌, ◌∷◌, [], ℕ, List, take, length, vec_len, OnOk, OnErr, Err, IsTrue};
-ghost use Rattle.pr_io.specs.Streams.{Put, PutSome};
+ghost use Rattle.std.specs.Prelude.{◌≡◌, ◌+◌, ◌-◌, ◌≤◌, ◌<◌, ◌^◌, ◌↔◌, [], ℕ, List, replicate, length, vec_len, IfOk, OnOk, OnErr, Err};
 ghost use Rattle.pr_io.specs.Causes.{HasCause, Rose};
 ghost use Rattle.pr_grammar.specs.Schedules as schedules;
 ghost use Rattle.pr_model.specs.Limits.{HELD};
 ghost use Rattle.pr_model.specs.Keeping.{Nothing};
 ghost use Rattle.pr_model.specs.Worlds.{powered};
-ghost use Rattle.pr_model.specs.Lanes.{Lane, Dead, fresh, arrived};
-ghost use Rattle.pr_model.specs.Runs.{Deed, TakesTurn, RunsRecord, BeginsRecord};
-ghost use Rattle.pr_core.specs.View.{StandsFor, blocks_of, known_to};
+ghost use Rattle.pr_model.specs.Lanes.{Lane, Dead, fresh};
+ghost use Rattle.pr_model.specs.Runs.{TakesTurn, RunsRecord, BeginsRecord, ActsOn};
+ghost use Rattle.pr_core.specs.View.{StandsFor, blocks_of, KeepsOthers};
 ghost use Rattle.pr_tool.specs.Reading.{record_of, IsHeld, Reads};
-ghost use Rattle.pr_tool.specs.Sessions.{lane_of, reply_of};
-ghost use Rattle.pr_tool.specs.Following.{Agrees, fed};
-ghost use Rattle.pr_tool.specs.Exits.{Ran, Stands, Causes, Decides, AreReplayWords};
+ghost use Rattle.pr_tool.specs.Sessions.{lane_of, lanes_of};
+ghost use Rattle.pr_tool.specs.Following.{Agrees, AllAgree, fed};
+ghost use Rattle.pr_tool.specs.Exits.{Ran, Stands, Causes, Decides};
 ghost use Rattle.pr_tool.specs.Stops.{exit_of, Does};
+ghost use Rattle.pr_tool.specs.Asking.{AsksReplay};
 
+use crate::asking::lanes_asked;
 use crate::exit::Exit;
 use crate::schedule::{End, Record, read_record};
 use crate::session::Session;
 use pr_core::Core;
 use pr_io::{Disk, Failed, Medium, Sink, Source};
-use std::alloc::Global;
+use std::alloc::{AllocError, Global};
 
 /// The most bytes of an arrival.
 const ARRIVAL: usize = 65_535;
@@ -27,45 +28,49 @@ const ARRIVAL: usize = 65_535;
 /// The most bytes of a schedule that are looked at.
 const BUDGET: u64 = 1 << 32;
 
-/// One turn of the lane, whose reply is written.
+/// One turn of the lane of a number, whose reply is written.
 fn step<K: Sink, M: Medium, D: Disk>(
     sink: &mut K,
     core: &mut Core<M, D>,
     lane: &mut Session,
+    who: u8,
 ) -> Result<(), Failed>
-    requires { Agrees (lane_of lane.old).phase 0 core.old }
-    ensures all { OnOk result (Ran (TakesTurn 0) (K.written sink.old) (K.written sink.new) core.old (lane_of lane.old) core.new (lane_of lane.new) []) }
-    ensures some { OnErr result ((lost : List ℕ) × Ran (TakesTurn 0) (K.written sink.old) (K.written sink.new) core.old (lane_of lane.old) core.new (lane_of lane.new) lost) }
-    ensures agrees { Agrees (lane_of lane.new).phase 0 core.new }
+    requires { Agrees (lane_of lane.old).phase who core.old }
+    ensures all { OnOk result (Ran (TakesTurn who) (K.written sink.old) (K.written sink.new) core.old (lane_of lane.old) core.new (lane_of lane.new) []) }
+    ensures some { OnErr result ((lost : List ℕ) × Ran (TakesTurn who) (K.written sink.old) (K.written sink.new) core.old (lane_of lane.old) core.new (lane_of lane.new) lost) }
+    ensures agrees { Agrees (lane_of lane.new).phase who core.new }
+    ensures others { KeepsOthers who core.old core.new }
     ensures room { length (lane_of lane.old).bytes ≡ HELD → ((lane_of lane.old).phase ≡ Dead → ⊥) → (more : List ℕ) → 0 < length more → 0 < fed (lane_of lane.new) more }
     ensures cause { HasCause (K.faults sink.old) (K.faults sink.new) result }
 {
-    lane.turn(core, 0);
-    lane.write_reply(sink, 0)
+    lane.turn(core, who as u64);
+    lane.write_reply(sink, who)
 }
 
-/// Bytes arrive on the lane. While not all fit, it takes turns.
+/// Bytes arrive on the lane of a number. While not all fit, it takes turns.
 fn arrive<K: Sink, M: Medium, D: Disk>(
     sink: &mut K,
     core: &mut Core<M, D>,
     lane: &mut Session,
+    who: u8,
     bytes: &[u8],
 ) -> Result<(), Failed>
-    requires { Agrees (lane_of lane.old).phase 0 core.old }
-    ensures all { OnOk result (Ran (RunsRecord (schedules.Arrival 0 bytes.now)) (K.written sink.old) (K.written sink.new) core.old (lane_of lane.old) core.new (lane_of lane.new) []) }
-    ensures some { OnErr result ((m : Lane) × (lost : List ℕ) × Ran (BeginsRecord (schedules.Arrival 0 bytes.now)) (K.written sink.old) (K.written sink.new) core.old (lane_of lane.old) core.new m lost) }
-    ensures agrees { Agrees (lane_of lane.new).phase 0 core.new }
+    requires { Agrees (lane_of lane.old).phase who core.old }
+    ensures all { OnOk result (Ran (RunsRecord (schedules.Arrival who bytes.now)) (K.written sink.old) (K.written sink.new) core.old (lane_of lane.old) core.new (lane_of lane.new) []) }
+    ensures some { OnErr result ((m : Lane) × (lost : List ℕ) × Ran (BeginsRecord (schedules.Arrival who bytes.now)) (K.written sink.old) (K.written sink.new) core.old (lane_of lane.old) core.new m lost) }
+    ensures agrees { Agrees (lane_of lane.new).phase who core.new }
+    ensures others { KeepsOthers who core.old core.new }
     ensures cause { HasCause (K.faults sink.old) (K.faults sink.new) result }
 {
     let mut at = lane.feed(bytes);
     while at < bytes.len() {
-        step(sink, core, lane)?;
+        step(sink, core, lane, who)?;
         at += lane.feed(&bytes[at..]);
     }
     Ok(())
 }
 
-/// What a record does, whose bytes stand in the buffer.
+/// What a record does on its lane, whose bytes stand in the buffer.
 fn act<K: Sink, M: Medium, D: Disk>(
     sink: &mut K,
     core: &mut Core<M, D>,
@@ -73,19 +78,45 @@ fn act<K: Sink, M: Medium, D: Disk>(
     found: Record,
     body: &[u8],
 ) -> Result<(), Failed>
-    requires agrees { Agrees (lane_of lane.old).phase 0 core.old }
+    requires agrees { Agrees (lane_of lane.old).phase (schedules.lane_of (record_of found body.now)) core.old }
     requires held { IsHeld found }
     requires room { 65535 ≤ length body.now }
-    requires lane { schedules.IsRecord 1 (record_of found body.now) }
     ensures all { OnOk result (Ran (RunsRecord (record_of found body.now)) (K.written sink.old) (K.written sink.new) core.old (lane_of lane.old) core.new (lane_of lane.new) []) }
     ensures some { OnErr result ((m : Lane) × (lost : List ℕ) × Ran (BeginsRecord (record_of found body.now)) (K.written sink.old) (K.written sink.new) core.old (lane_of lane.old) core.new m lost) }
-    ensures agrees { Agrees (lane_of lane.new).phase 0 core.new }
+    ensures agrees { Agrees (lane_of lane.new).phase (schedules.lane_of (record_of found body.now)) core.new }
+    ensures others { KeepsOthers (schedules.lane_of (record_of found body.now)) core.old core.new }
     ensures cause { HasCause (K.faults sink.old) (K.faults sink.new) result }
 {
     match found {
-        Record::Arrival { len, .. } => arrive(sink, core, lane, &body[..len]),
-        Record::Step { .. } => step(sink, core, lane),
+        Record::Arrival { lane: who, len } => arrive(sink, core, lane, who, &body[..len]),
+        Record::Step { lane: who } => step(sink, core, lane, who),
+        Record::Close { lane: who } => {
+            lane.close(core, who as u64);
+            Ok(())
+        }
     }
+}
+
+/// What a record does, on its lane of these.
+fn act_on<K: Sink, M: Medium, D: Disk>(
+    sink: &mut K,
+    core: &mut Core<M, D>,
+    lanes: &mut [Session],
+    found: Record,
+    body: &[u8],
+) -> Result<(), Failed>
+    requires agree { AllAgree (lanes_of lanes.old) core.old }
+    requires held { IsHeld found }
+    requires room { 65535 ≤ length body.now }
+    requires valid { schedules.IsRecord (length lanes.old) (record_of found body.now) }
+    ensures all { OnOk result (Ran (ActsOn RunsRecord (record_of found body.now)) (K.written sink.old) (K.written sink.new) core.old (lanes_of lanes.old) core.new (lanes_of lanes.new) []) }
+    ensures some { OnErr result ((last : List Lane) × (lost : List ℕ) × Ran (ActsOn BeginsRecord (record_of found body.now)) (K.written sink.old) (K.written sink.new) core.old (lanes_of lanes.old) core.new last lost) }
+    ensures agree { AllAgree (lanes_of lanes.new) core.new }
+    ensures count { length lanes.new ≡ length lanes.old }
+    ensures cause { HasCause (K.faults sink.old) (K.faults sink.new) result }
+{
+    let lane = &mut lanes[found.lane() as usize];
+    act(sink, core, lane, found, body)
 }
 
 /// Why a run stops: no record was read, or a reply couldn't be written.
@@ -111,14 +142,19 @@ impl Stop {
 }
 
 /// Reads one record into the buffer.
-fn read_into<S: Source>(source: &mut S, left: u64, body: &mut Vec<u8>) -> Result<Record, End>
+fn read_into<S: Source>(
+    source: &mut S,
+    lanes: u8,
+    left: u64,
+    body: &mut Vec<u8>,
+) -> Result<Record, End>
     requires { vec_len body.old ≡ 65535 }
-    ensures reads { Reads 1 left result (S.rest source.old) (S.rest source.new) body.new.items }
+    ensures reads { Reads lanes left result (S.rest source.old) (S.rest source.new) body.new.items }
     ensures room { vec_len body.new ≡ 65535 }
     ensures later { S.faults source.old ≤ S.faults source.new }
     ensures fault { result ≡ Err End.ReadFault → Rose (S.faults source.old) (S.faults source.new) }
 {
-    read_record(source, 1, left, body)
+    read_record(source, lanes, left, body)
 }
 
 /// How many bytes of a schedule a record takes.
@@ -129,7 +165,7 @@ fn size_of(found: Record) -> u64
 {
     match found {
         Record::Arrival { len, .. } => 4 + len as u64,
-        Record::Step { .. } => 4,
+        Record::Step { .. } | Record::Close { .. } => 4,
     }
 }
 
@@ -139,69 +175,118 @@ fn run_one<S: Source, K: Sink, M: Medium, D: Disk>(
     source: &mut S,
     sink: &mut K,
     core: &mut Core<M, D>,
-    lane: &mut Session,
+    lanes: &mut [Session],
     left: u64,
     body: &mut Vec<u8>,
 ) -> Result<u64, Stop>
-    requires agrees { Agrees (lane_of lane.old).phase 0 core.old }
+    requires agree { AllAgree (lanes_of lanes.old) core.old }
+    requires most { length lanes.old ≤ 64 }
     requires room { vec_len body.old ≡ 65535 }
-    ensures does { Does left result (S.rest source.old) (S.rest source.new) (K.written sink.old) (K.written sink.new) core.old (lane_of lane.old) core.new (lane_of lane.new) }
-    ensures agrees { Agrees (lane_of lane.new).phase 0 core.new }
+    ensures does { Does (length lanes.old) left result (S.rest source.old) (S.rest source.new) (K.written sink.old) (K.written sink.new) core.old (lanes_of lanes.old) core.new (lanes_of lanes.new) }
+    ensures agree { AllAgree (lanes_of lanes.new) core.new }
+    ensures count { length lanes.new ≡ length lanes.old }
     ensures room { vec_len body.new ≡ 65535 }
     ensures read { result ≡ Err (Stop.Read End.ReadFault) → Rose (S.faults source.old) (S.faults source.new) }
     ensures write { result ≡ Err Stop.Write → Rose (K.faults sink.old) (K.faults sink.new) }
     ensures read_later { S.faults source.old ≤ S.faults source.new }
     ensures write_later { K.faults sink.old ≤ K.faults sink.new }
 {
-    let found = match read_into(source, left, body) {
+    let found = match read_into(source, lanes.len() as u8, left, body) {
         Ok(found) => found,
         Err(end) => return Err(Stop::Read(end)),
     };
-    match act(sink, core, lane, found, body) {
+    match act_on(sink, core, lanes, found, body) {
         Ok(()) => Ok(size_of(found)),
         Err(_) => Err(Stop::Write),
     }
 }
 
-/// Runs a schedule of which so many bytes are looked at, on one lane.
+/// Runs a schedule of which so many bytes are looked at, on these lanes.
 fn run<S: Source, K: Sink, M: Medium, D: Disk>(
     source: &mut S,
     sink: &mut K,
     core: &mut Core<M, D>,
-    lane: &mut Session,
+    lanes: &mut [Session],
     body: &mut Vec<u8>,
     budget: u64,
 ) -> Exit
     requires opening { StandsFor core.old (powered Nothing) }
-    requires nobody { known_to core.old ≡ [] }
-    requires fresh { lane_of lane.old ≡ fresh }
+    requires fresh { lanes_of lanes.old ≡ replicate (length lanes.old) fresh }
+    requires most { length lanes.old ≤ 64 }
     requires room { vec_len body.old ≡ 65535 }
-    ensures stands { Stands result (blocks_of core.old) (S.rest source.old) (S.rest source.new) (K.written sink.old) (K.written sink.new) }
-    ensures causes { Causes result budget (S.rest source.old) }
+    ensures stands { Stands (length lanes.old) result (blocks_of core.old) (S.rest source.old) (S.rest source.new) (K.written sink.old) (K.written sink.new) }
+    ensures causes { Causes (length lanes.old) result budget (S.rest source.old) }
     ensures begun { result ≡ Exit.BadWords → ⊥ }
     ensures read { result ≡ Exit.ReadFault → Rose (S.faults source.old) (S.faults source.new) }
     ensures write { result ≡ Exit.WriteFault → Rose (K.faults sink.old) (K.faults sink.new) }
 {
     let mut left = budget;
     'records: loop {
-        match run_one(source, sink, core, lane, left, body) {
+        match run_one(source, sink, core, lanes, left, body) {
             Ok(size) => left -= size,
             Err(stop) => return stop.exit(budget - left),
         }
     }
 }
 
-fn are_words(words: &[&str]) -> bool
-    ensures { IsTrue result ↔ AreReplayWords words.now }
+/// So many new connections.
+fn fresh_lanes(alloc: Global, count: usize) -> Result<Vec<Session>, AllocError>
+    ensures fresh { IfOk result (λ s. lanes_of s.items ≡ replicate count fresh) }
+    ensures count { IfOk result (λ s. vec_len s ≡ count) }
 {
-    matches!(words, ["replay", "1"])
+    let mut lanes = Vec::with_capacity(alloc, count)?;
+    while lanes.len() < count {
+        lanes.push(Session::new(alloc)?)?;
+    }
+    Ok(lanes)
 }
 
-/// Runs a schedule of one lane over a target, whose words are `replay 1`.
+/// Runs a schedule of so many lanes over a target, of whose bytes no more than the budget are
+/// looked at: `replay_main` without its words.
+///
+/// # Errors
+///
+/// As `replay_main`, with the budget in place of 2^32 bytes, and never `BadWords`.
+pub fn replay_within<S: Source, K: Sink, M: Medium, D: Disk>(
+    alloc: Global,
+    lanes: usize,
+    budget: u64,
+    source: &mut S,
+    sink: &mut K,
+    medium: &mut M,
+    disk: &mut D,
+) -> Exit
+    requires { (1 ≤ lanes) × (lanes ≤ 64) }
+
+    // The headline, for the commands that there are: one legal history whose run over the records
+    // read gives the bytes written.
+    ensures stands { Stands lanes result (M.count medium.old) (S.rest source.old) (S.rest source.new) (K.written sink.old) (K.written sink.new) }
+
+    // The causes of the exits, and that what the schedule alone brings is the exit.
+    ensures causes { Causes lanes result budget (S.rest source.old) }
+    ensures decides { Decides lanes result budget (S.rest source.old) }
+    ensures begun { result ≡ Exit.BadWords → ⊥ }
+    ensures read { result ≡ Exit.ReadFault → Rose (S.faults source.old) (S.faults source.new) }
+    ensures write { result ≡ Exit.WriteFault → Rose (K.faults sink.old) (K.faults sink.new) }
+{
+    let Ok(mut sessions) = fresh_lanes(alloc, lanes) else {
+        return Exit::NoMemory;
+    };
+    let Ok(mut body) = vec![in alloc; 0u8; ARRIVAL] else {
+        return Exit::NoMemory;
+    };
+    let Ok(mut core) = Core::open(alloc, medium, disk) else {
+        return Exit::NoMemory;
+    };
+    run(source, sink, &mut core, &mut sessions, &mut body, budget)
+}
+
+/// Runs a schedule over a target, on 1 to 64 lanes: the words are `replay` and their number.
 ///
 /// The target begins as after a power-up that restored nothing; medium and disk aren't touched
-/// yet. The schedule's records act in order, and each reply is written at once. All memory is
-/// taken before the first record: some 1.1 MiB.
+/// yet. The schedule's records act in order, each on the lane of its number, under which the target
+/// knows that lane, and each reply is written at once. All memory is taken before the first record:
+/// some 1 MiB for each lane.
 ///
 /// # Errors
 ///
@@ -218,28 +303,16 @@ pub fn replay_main<S: Source, K: Sink, M: Medium, D: Disk>(
     medium: &mut M,
     disk: &mut D,
 ) -> Exit
-    ensures words { result ≡ Exit.BadWords ↔ (¬ AreReplayWords words.now) }
-
-    // The headline, for the commands that there are: one legal history whose run over the records
-    // read gives the bytes written.
-    ensures stands { Stands result (M.count medium.old) (S.rest source.old) (S.rest source.new) (K.written sink.old) (K.written sink.new) }
-
-    // The causes of the exits, and that what the schedule alone brings is the exit.
-    ensures causes { Causes result (2 ^ 32) (S.rest source.old) }
-    ensures decides { Decides result (2 ^ 32) (S.rest source.old) }
+    ensures words { result ≡ Exit.BadWords ↔ (¬ ((lanes : ℕ) × AsksReplay words.now lanes)) }
+    ensures stands { (lanes : ℕ) → AsksReplay words.now lanes → Stands lanes result (M.count medium.old) (S.rest source.old) (S.rest source.new) (K.written sink.old) (K.written sink.new) }
+    ensures causes { (lanes : ℕ) → AsksReplay words.now lanes → Causes lanes result (2 ^ 32) (S.rest source.old) }
+    ensures decides { (lanes : ℕ) → AsksReplay words.now lanes → Decides lanes result (2 ^ 32) (S.rest source.old) }
     ensures read { result ≡ Exit.ReadFault → Rose (S.faults source.old) (S.faults source.new) }
     ensures write { result ≡ Exit.WriteFault → Rose (K.faults sink.old) (K.faults sink.new) }
     ensures untouched { result ≡ Exit.BadWords → (source.new ≡ source.old) × (sink.new ≡ sink.old) × (medium.new ≡ medium.old) × (disk.new ≡ disk.old) }
 {
-    if !are_words(words) {
-        return Exit::BadWords;
+    match lanes_asked(words) {
+        Some(lanes) => replay_within(alloc, lanes, BUDGET, source, sink, medium, disk),
+        None => Exit::BadWords,
     }
-    let Ok(mut lane) = Session::new(alloc) else {
-        return Exit::NoMemory;
-    };
-    let Ok(mut body) = vec![in alloc; 0u8; ARRIVAL] else {
-        return Exit::NoMemory;
-    };
-    let mut core = Core::open(medium, disk);
-    run(source, sink, &mut core, &mut lane, &mut body, BUDGET)
 }

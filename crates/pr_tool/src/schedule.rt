@@ -1,8 +1,8 @@
-ghost use Rattle.std.specs.Prelude.{◌≡◌, ◌≤◌, ◌<◌, true, Err, length, slice_index, IfOk, IfErr, OnOk};
+ghost use Rattle.std.specs.Prelude.{◌≡◌, ◌≤◌, ◌<◌, ℕ, List, true, Err, length, slice_index, IfOk, IfErr, OnOk};
 ghost use Rattle.pr_io.specs.Streams.{Took};
 ghost use Rattle.pr_io.specs.Causes.{Rose};
 ghost use Rattle.pr_grammar.specs.Schedules as schedules;
-ghost use Rattle.pr_tool.specs.Reading.{Reads, Stops, Cuts, Ends, end_at};
+ghost use Rattle.pr_tool.specs.Reading.{record_of, Reads, Stops, Cuts, Ends, end_at};
 
 use pr_io::{Source, read_up_to};
 use pr_words::get_u16;
@@ -14,6 +14,19 @@ pub(crate) enum Record {
     Arrival { lane: u8, len: usize },
     /// A lane takes a step.
     Step { lane: u8 },
+    /// A lane's connection is closed.
+    Close { lane: u8 },
+}
+
+impl Record {
+    /// The lane on which it acts.
+    pub(crate) fn lane(self) -> u8
+        ensures { (body : List ℕ) → result ≡ schedules.lane_of (record_of self body) }
+    {
+        match self {
+            Record::Arrival { lane, .. } | Record::Step { lane } | Record::Close { lane } => lane,
+        }
+    }
 }
 
 /// Why no record was read.
@@ -51,7 +64,7 @@ fn can_begin(lanes: u8, bytes: &[u8]) -> bool
 {
     let kind = byte_at(bytes, 1);
     let is_empty = byte_at(bytes, 2) == 0 && byte_at(bytes, 3) == 0;
-    byte_at(bytes, 0) < lanes && kind < 2 && (kind == 0 || is_empty)
+    byte_at(bytes, 0) < lanes && kind < 3 && (kind == 0 || is_empty)
 }
 
 /// Takes one byte more, to see whether the source has ended where no more is looked at.
@@ -139,6 +152,9 @@ pub(crate) fn read_record<S: Source>(
     let lane = head[0];
     if head[1] == 1 {
         return Ok(Record::Step { lane });
+    }
+    if head[1] == 2 {
+        return Ok(Record::Close { lane });
     }
     let len = usize::from(get_u16(&head, 2));
     read_body(source, left - 4, &mut body[..len])?;

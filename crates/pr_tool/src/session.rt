@@ -1,5 +1,5 @@
-ghost use Rattle.std.specs.Prelude.{◌≡◌, ◌+◌, ◌-◌, ◌≤◌, ◌<◌, ◌∷◌, ◌++◌, [], ℕ, List, Some, None, true, take, drop, length, vec_len, IfOk, OnOk, OnErr, MatchBool};
-ghost use Rattle.pr_grammar.specs.Bodies.{login_version, login_nexus, login_reply, command_reply, command_cdb, command_data, is_command_body};
+ghost use Rattle.std.specs.Prelude.{◌≡◌, ◌+◌, ◌-◌, ◌≤◌, ◌<◌, ◌∷◌, [], Some, None, true, take, drop, length, vec_len, IfOk, OnOk, OnErr, MatchBool};
+ghost use Rattle.pr_grammar.specs.Bodies.{login_version, login_nexus, command_reply, command_cdb, command_data, is_command_body};
 ghost use Rattle.pr_grammar.specs.Frames.{front, frame, spelled};
 ghost use Rattle.pr_grammar.specs.Frames as frames;
 ghost use Rattle.pr_words.specs.declared.nexus.Nexus.{Nexus};
@@ -9,21 +9,23 @@ ghost use Rattle.pr_io.specs.Causes.{HasCause};
 ghost use Rattle.pr_grammar.specs.Outputs.{output_of};
 ghost use Rattle.pr_model.specs.Limits.{HELD};
 ghost use Rattle.pr_model.specs.Entries.{entry, Login, Command};
-ghost use Rattle.pr_model.specs.Lanes.{Lane, lane, turn, broken, asked, fresh, dead, arrived, rejected, replied, place_after, phase_after_login, after_login, after_command, after_logout, Asks};
+ghost use Rattle.pr_model.specs.Lanes.{Lane, lane, turn, broken, asked, fresh, dead, arrived, rejected, place_after, phase_after_login, after_login, after_command, Asks};
 ghost use Rattle.pr_model.specs.Lanes as lanes;
+ghost use Rattle.pr_model.specs.Runs.{closing};
 ghost use Rattle.pr_core.specs.Outs.{out_of, IsProper};
-ghost use Rattle.pr_core.specs.View.{owner_of, known_to, Extends};
+ghost use Rattle.pr_core.specs.View.{owner_of, KeepsOthers, Extends};
 ghost use Rattle.pr_link.specs.Streams as streams;
-ghost use Rattle.pr_link.specs.Deframer.{stream_of, held_of, place_of};
+ghost use Rattle.pr_link.specs.Deframer.{stream_of, held_of};
 ghost use Rattle.pr_tool.specs.Rooms.{answer_body};
 ghost use Rattle.pr_tool.specs.Phases.{phase_of, IsAlive};
 ghost use Rattle.pr_tool.specs.Following.{Agrees, Follows, IsSound, Goes, fed};
 
-use crate::heads::{empty_head, reject_head, reply_head, sense_head, write_front};
+use crate::heads::{empty_head, reject_head, reply_head, write_both, write_front};
 use crate::output::write_output;
 use pr_core::{CommandOut, Core};
 use pr_io::{Disk, Failed, Medium, Sink};
 use pr_link::{Deframer, Frame, Got};
+use pr_sense::write_fixed;
 use pr_words::{Nexus, Sense, Side, Status, get_u16, get_u64};
 use std::alloc::{AllocError, Global};
 
@@ -70,6 +72,30 @@ impl Session {
         })
     }
 
+    /// The connection is a new one.
+    fn begin(&mut self)
+        ensures lane { lane_of self.new ≡ fresh }
+        ensures reply { reply_of self.new ≡ [] }
+    {
+        self.deframer.restart();
+        self.phase = Phase::Fresh;
+        self.reply = 0;
+    }
+
+    /// The connection is closed, and a nexus that is logged in is logged out without a reply. What
+    /// comes next is a new connection.
+    pub fn close<M: Medium, D: Disk>(&mut self, core: &mut Core<M, D>, who: u64)
+        requires { Agrees (lane_of self.old).phase who core.old }
+        ensures entries { Extends core.old core.new (closing who (lane_of self.old).phase) }
+        ensures lane { lane_of self.new ≡ fresh }
+        ensures others { KeepsOthers who core.old core.new }
+    {
+        if let Phase::In(nexus) = self.phase {
+            core.logout(who, nexus);
+        }
+        self.begin();
+    }
+
     /// How many bytes of the connection are held. With the work buffer a session holds 1,048,640
     /// at most.
     pub fn held(&self) -> usize
@@ -114,6 +140,7 @@ impl Session {
         requires { Agrees (lane_of self.old).phase who core.old }
         ensures follows { Follows who core.old (lane_of self.old) (turn (lane_of self.old)) core.new (lane_of self.new) (reply_of self.new) }
         ensures agrees { Agrees (lane_of self.new).phase who core.new }
+        ensures others { KeepsOthers who core.old core.new }
     {
         self.reply = 0;
         if self.is_dead() {
@@ -139,6 +166,7 @@ impl Session {
         requires alive { IsAlive self.old.phase }
         ensures follows { (l : Lane) → Follows who core.old l (broken (phase_of self.old.phase) place reason) core.new (lane_of self.new) (reply_of self.new) }
         ensures agrees { Agrees (lane_of self.new).phase who core.new }
+        ensures others { KeepsOthers who core.old core.new }
     {
         match self.phase {
             Phase::Dead => unreachable!(),
@@ -177,6 +205,7 @@ impl Session {
             (asked (phase_of self.old.phase) place (streams.frame_of head (take head.body self.old.work.items)) (lane_of self.old).bytes)
             core.new (lane_of self.new) (reply_of self.new) }
         ensures agrees { Agrees (lane_of self.new).phase who core.new }
+        ensures others { KeepsOthers who core.old core.new }
     {
         match self.phase {
             Phase::Dead => unreachable!(),
@@ -229,6 +258,7 @@ impl Session {
             (Asks nexus (Command f.lun (command_cdb f.body) (command_data f.body)) (after_command nexus f (lane_of self.old).bytes (lane_of self.old).place))
             core.new (lane_of self.new) (reply_of self.new) }
         ensures agrees { Agrees (lane_of self.new).phase who core.new }
+        ensures others { KeepsOthers who core.old core.new }
     {
         let out = command_in(core, who, nexus, head, &mut self.work);
         self.reply = write_answer(head, out, &mut self.work);
@@ -236,12 +266,12 @@ impl Session {
 
     /// A Login.
     fn log_in<M: Medium, D: Disk>(&mut self, core: &mut Core<M, D>, who: u64, head: Frame)
-        requires fresh { known_to core.old ≡ [] }
         requires body { head.body ≡ 12 }
         ensures follows { (l : Lane) (f : frames.Frame) → f ≡ streams.frame_of head (take head.body self.old.work.items) → Follows who core.old l
             (Asks (login_nexus f.body) (Login (login_version f.body)) (after_login f (lane_of self.old).bytes (lane_of self.old).place))
             core.new (lane_of self.new) (reply_of self.new) }
         ensures agrees { Agrees (lane_of self.new).phase who core.new }
+        ensures others { KeepsOthers who core.old core.new }
     {
         let (version, nexus) = login_of(&self.work[..head.body]);
         let code = core.login(who, version, nexus);
@@ -373,10 +403,14 @@ fn write_ended(head: Frame, status: Status, len: usize, work: &mut Vec<u8>) -> u
 /// Writes the reply of a command with sense.
 fn write_sense(head: Frame, sense: Sense, work: &mut Vec<u8>) -> usize
     requires room { vec_len work.old ≡ 524320 }
+    requires key { sense.code.key < 16 }
     ensures reply { take result (drop 4 work.new.items) ≡ spelled (frame 0x82 head.lun head.tag (command_reply Status.CheckCondition (Some sense) [])) }
     ensures within { result ≤ 524316 }
     ensures len { vec_len work.new ≡ 524320 }
 {
-    write_front(work, &sense_head(head.lun, head.tag, sense));
+    let mut bytes = [0; 18];
+    write_fixed(&sense, &mut bytes);
+    let text = reply_head(0x82, head.lun, head.tag, [2, 18, 0, 0], 18);
+    write_both(work, &text, &bytes);
     34
 }

@@ -5,6 +5,7 @@ use Rattle.pr_io.proofs.Sent.{always_err}
 use Rattle.pr_tool.specs.Following.{fed}
 use Rattle.pr_tool.specs.Sessions.{lane_of}
 use Rattle.pr_tool.proofs.Running.{room_start, room_more, room_fed, room_end, room_begun, fed_full, fed_within, agrees_still, all_behind}
+use Rattle.pr_tool.proofs.Places.{keeps_more}
 use Rattle.pr_tool.proofs.replay.arrive.Goals as goal
 
 pub loop-at-init : goal.loop-at-init
@@ -13,8 +14,9 @@ loop-at-init g c =
     let bytes : List ℕ = c.args.bytes.now in
     record {
       within = omega (arith, c.feed-at.ensures.count, fed_within l.phase l.bytes bytes);
-      ran = room_start c.args.core.now _ l (lane_of c.feed-at.new.self) bytes c.feed-at.result c.feed-at.ensures.lane;
-      agrees = agrees_still c.args.core.now l (lane_of c.feed-at.new.self) (take c.feed-at.result bytes) c.feed-at.ensures.lane c.requires;
+      ran = room_start c.args.who c.args.core.now _ l (lane_of c.feed-at.new.self) bytes c.feed-at.result c.feed-at.ensures.lane;
+      others = λ other n apart is. is;
+      agrees = agrees_still c.args.who c.args.core.now l (lane_of c.feed-at.new.self) (take c.feed-at.result bytes) c.feed-at.ensures.lane c.requires;
       full = λ less. fed_full l (lane_of c.feed-at.new.self) bytes c.feed-at.result c.feed-at.ensures.count c.feed-at.ensures.lane c.feed-at.ensures.bound less;
       bound = c.feed-at.ensures.bound;
       later = omega arith;
@@ -29,9 +31,12 @@ returns-in_err-step-clause-some g c =
     always_err c.from_residual.result (
       arrived (lane_of c.step.new.lane) rest,
       some.0,
-      room_begun c.args.core.now c.step.new.core _ _ (lane_of c.args.lane.now) _ c.args.bytes.now some.0
-          (room_more c.args.core.now c.loop-at.core c.step.new.core _ _ _ (lane_of c.args.lane.now) (lane_of c.loop-at.lane) (lane_of c.step.new.lane) c.args.bytes.now rest some.0 c.loop-at.invariant.ran full.0 full.1 behind some.1),
+      room_begun c.args.who c.args.core.now c.step.new.core _ _ (lane_of c.args.lane.now) _ c.args.bytes.now some.0
+          (room_more c.args.who c.args.core.now c.loop-at.core c.step.new.core _ _ _ (lane_of c.args.lane.now) (lane_of c.loop-at.lane) (lane_of c.step.new.lane) c.args.bytes.now rest some.0 c.loop-at.invariant.ran full.0 full.1 behind some.1),
     )
+
+pub returns-in_err-step-clause-others : goal.returns-in_err-step-clause-others
+returns-in_err-step-clause-others g c = keeps_more c.args.who c.args.core.now c.loop-at.core c.step.new.core c.loop-at.invariant.others c.step.ensures.others
 
 pub loop-at-preserved : goal.loop-at-preserved
 loop-at-preserved g c =
@@ -51,13 +56,14 @@ loop-at-preserved g c =
     record {
       within = omega (arith, within, size, c.loop-at-test.true);
       ran =
-          room_fed c.args.core.now c.step.new.core _ _ l mid next bytes at n
-          (room_more c.args.core.now c.loop-at.core c.step.new.core _ _ _ l (lane_of c.loop-at.lane) mid bytes rest [] c.loop-at.invariant.ran full.0 full.1 behind c.in_ok-step.ensures.all) goes;
-      agrees = agrees_still c.step.new.core mid next (take n rest) goes c.step.ensures.agrees;
+          room_fed c.args.who c.args.core.now c.step.new.core _ _ l mid next bytes at n
+          (room_more c.args.who c.args.core.now c.loop-at.core c.step.new.core _ _ _ l (lane_of c.loop-at.lane) mid bytes rest [] c.loop-at.invariant.ran full.0 full.1 behind c.in_ok-step.ensures.all) goes;
+      others = keeps_more c.args.who c.args.core.now c.loop-at.core c.step.new.core c.loop-at.invariant.others c.step.ensures.others;
+      agrees = agrees_still c.args.who c.step.new.core mid next (take n rest) goes c.step.ensures.agrees;
       full = λ less. fed_full mid next rest n count goes c.feed-at-in-loop-at.ensures.bound (omega (arith, less, size));
       bound = c.feed-at-in-loop-at.ensures.bound;
       later = omega (arith, c.step.ensures.cause.later, c.loop-at.invariant.later);
     }
 
 pub returns-clause-all : goal.returns-clause-all
-returns-clause-all g c = room_end c.args.core.now c.loop-at.core _ _ (lane_of c.args.lane.now) (lane_of c.loop-at.lane) c.args.bytes.now c.loop-at.at c.loop-at-test.false c.loop-at.invariant.bound c.loop-at.invariant.ran
+returns-clause-all g c = room_end c.args.who c.args.core.now c.loop-at.core _ _ (lane_of c.args.lane.now) (lane_of c.loop-at.lane) c.args.bytes.now c.loop-at.at c.loop-at-test.false c.loop-at.invariant.bound c.loop-at.invariant.ran

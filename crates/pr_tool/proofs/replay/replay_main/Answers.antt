@@ -1,15 +1,12 @@
-use Rattle.std.proofs.Common.{◌≡◌, true, refl}
-use Rattle.pr_tool.proofs.Standing.{causes_decide}
+use Rattle.pr_tool.specs.Asking.{AsksReplay}
 use Rattle.pr_tool.proofs.replay.replay_main.Goals as goal
 
-pub returns-clause-words : goal.returns-clause-words
-returns-clause-words g c =
-    let are = c.are_words.ensures in
-    let yes : c.are_words.result ≡ true = c.if-not-are_words.false in
-    (λ is. absurd (c.run.ensures.begun is), λ other. absurd (other (are.0 (rw yes refl))))
+pub replay_within-requires : goal.replay_within-requires
+replay_within-requires g c =
+    let asks : AsksReplay c.args.words.now c.in-Some.lanes = (c.lanes_asked.ensures c.in-Some.lanes).0 c.in-Some.is in
+    (asks.0, asks.1)
 
-pub returns-clause-decides : goal.returns-clause-decides
-returns-clause-decides g c = causes_decide c.run.result _ _ c.run.ensures.causes
-
-pub returns-clause-untouched : goal.returns-clause-untouched
-returns-clause-untouched g c is = absurd (c.run.ensures.begun is)
+pub returns-in-Some-clause-words : goal.returns-in-Some-clause-words
+returns-in-Some-clause-words g c =
+    let asks : AsksReplay c.args.words.now c.in-Some.lanes = (c.lanes_asked.ensures c.in-Some.lanes).0 c.in-Some.is in
+    (λ is. absurd (c.replay_within.ensures.begun is), λ other. absurd (other (c.in-Some.lanes, asks)))

@@ -1,18 +1,19 @@
-use Rattle.std.proofs.Common.{◌≡◌, ◌≤◌, ◌-◌, vec_len}
+use Rattle.std.proofs.Common.{◌≡◌, ◌≤◌, ◌-◌, length, vec_len}
 use Rattle.pr_core.specs.View.{blocks_of}
-use Rattle.pr_tool.specs.Following.{Agrees}
+use Rattle.pr_tool.specs.Following.{AllAgree}
 use Rattle.pr_tool.specs.Exits.{GoesOn}
-use Rattle.pr_tool.specs.Sessions.{lane_of}
+use Rattle.pr_tool.specs.Sessions.{lanes_of}
 use Rattle.pr_tool.proofs.Standing.{CarriesTold}
 use Rattle.pr_tool.proofs.replay.run.Given as goal
 
 abbrev pub invariant-records : goal.invariant-records
 invariant-records g l =
     record {
-      goes : GoesOn l.core (blocks_of l.initial.core) (g.S.Source.rest l.initial.source) (g.S.Source.rest l.source) (g.K.Sink.written l.initial.sink) (g.K.Sink.written l.sink) (lane_of l.lane) (l.budget - l.left);
-      carries : CarriesTold l.budget l.left (g.S.Source.rest l.initial.source) (g.S.Source.rest l.source);
+      goes : GoesOn (length l.initial.lanes) l.core (blocks_of l.initial.core) (g.S.Source.rest l.initial.source) (g.S.Source.rest l.source) (g.K.Sink.written l.initial.sink) (g.K.Sink.written l.sink) (lanes_of l.lanes) (l.budget - l.left);
+      carries : CarriesTold (length l.initial.lanes) l.budget l.left (g.S.Source.rest l.initial.source) (g.S.Source.rest l.source);
       within : l.left ≤ l.budget;
-      agrees : Agrees (lane_of l.lane).phase 0 l.core;
+      agree : AllAgree (lanes_of l.lanes) l.core;
+      count : length l.lanes ≡ length l.initial.lanes;
       room : vec_len l.body ≡ 65535;
       read_later : g.S.Source.faults l.initial.source ≤ g.S.Source.faults l.source;
       write_later : g.K.Sink.faults l.initial.sink ≤ g.K.Sink.faults l.sink;

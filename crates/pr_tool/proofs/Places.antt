@@ -1,0 +1,113 @@
+-- Lanes in their places.
+use Rattle.std.proofs.Common.{◌≡◌, ℕ, zero, suc, ◌+◌, ◌<◌, List, [], ◌∷◌, ◌++◌, length, Option, Some, refl, sym, ap, ◌∙◌, subst, arith, inl, inr}
+use Rattle.std.specs.Prelude.{slice_get, slice_set, slice_index_or, option_map, replicate}
+use Rattle.std.proofs.lemmas.Option.{slice_get_within, slice_get-map, slice_get-get_or, get_or_from_slice_get}
+use Rattle.std.proofs.lemmas.List.{map-set, map-append, length-map, length-replicate, get_or-replicate, replicate-append-replicate}
+use Rattle.std.proofs.lemmas.Bool.{cases_eq}
+use Rattle.pr_words.specs.declared.nexus.Nexus.{Nexus}
+use Rattle.pr_grammar.specs.Schedules.{Record, Arrival, Step_of, Close_of, IsRecord, lane_of}
+use Rattle.pr_model.specs.Lanes.{Lane, Phase, Fresh, In, Dead, fresh}
+use Rattle.pr_model.specs.Runs.{Deed, ActsOn}
+use Rattle.pr_core.specs.declared.target.Core.{Core}
+use Rattle.pr_core.specs.View.{owner_of, KeepsOthers}
+use Rattle.pr_tool.specs.declared.session.Session.{Session}
+use Rattle.pr_tool.specs.Sessions.{lanes_of}
+use Rattle.pr_tool.specs.Sessions as sess
+use Rattle.pr_tool.specs.Following.{Agrees, AllAgree}
+use Rattle.pr_tool.specs.Exits.{Ran}
+
+get_set_same : {X : Type 0} (xs : List X) (i : ℕ) (y : X) → i < length xs → slice_get (slice_set xs i y) i ≡ Some y
+get_set_same [] i y within = absurd (omega (arith, within))
+get_set_same (x ∷ xs) zero y within = refl
+get_set_same (x ∷ xs) (suc i) y within = get_set_same xs i y (omega (arith, within))
+
+get_set_other : {X : Type 0} (xs : List X) (i j : ℕ) (y : X) → (j ≡ i → ⊥) → slice_get (slice_set xs i y) j ≡ slice_get xs j
+get_set_other [] i j y other = refl
+get_set_other (x ∷ xs) zero zero y other = absurd (other refl)
+get_set_other (x ∷ xs) zero (suc j) y other = refl
+get_set_other (x ∷ xs) (suc i) zero y other = refl
+get_set_other (x ∷ xs) (suc i) (suc j) y other = get_set_other xs i j y (λ e. other (ap suc e))
+
+some_is : {X : Type 0} (x y : X) → Some x ≡ Some y → x ≡ y
+some_is x y is = cc
+
+keeps_agrees : {M D : Type 0} (who other : ℕ) (old new : Core M D) (p : Phase) → KeepsOthers who old new → (other ≡ who → ⊥) → Agrees p other old → Agrees p other new
+keeps_agrees who other old new Fresh keeps apart agrees = tt
+keeps_agrees who other old new (In n) keeps apart agrees = keeps other n apart agrees
+keeps_agrees who other old new Dead keeps apart agrees = tt
+
+-- a core that kept the owners of the other nexuses twice kept them
+pub keeps_more : {M D : Type 0} (who : ℕ) (a b c : Core M D) → KeepsOthers who a b → KeepsOthers who b c → KeepsOthers who a c
+keeps_more who a b c first second other n apart is = second other n apart (first other n apart is)
+
+pub keeps_owner : {M D : Type 0} (who : ℕ) (old new : Core M D) → owner_of new ≡ owner_of old → KeepsOthers who old new
+keeps_owner who old new same other n apart is = ap (λ (owner : Nexus → Option ℕ). owner n) same ∙ is
+
+-- where one lane moved with the core, all agree as before
+pub all_agree : {M D : Type 0} (lanes : List Lane) (i : ℕ) (m : Lane) (old new : Core M D) → i < length lanes → AllAgree lanes old → KeepsOthers i old new → Agrees m.phase i new → AllAgree (slice_set lanes i m) new
+all_agree lanes i m old new within agree keeps agrees place l is =
+    elim (cases_eq place i) [
+      | inl same ↦ (
+          let this : m ≡ l = some_is m l (sym (get_set_same lanes i m within) ∙ ap (slice_get (slice_set lanes i m)) (sym same) ∙ is) in
+          subst (λ (x : Lane). Agrees x.phase place new) this (subst (λ (k : ℕ). Agrees m.phase k new) (sym same) agrees)
+          )
+      | inr other ↦ keeps_agrees i place old new l.phase keeps other (agree place l (sym (get_set_other lanes i place m other) ∙ is))
+    ]
+
+-- what a lane did, it did among all
+pub ran_on : {M D : Type 0} (Acts : Record → Lane → Deed → Lane → Type 0) (r : Record) (lanes : List Lane) (l m : Lane) (old new : Core M D) (a b : Option (List ℕ)) (lost : List ℕ)
+    → slice_get lanes (lane_of r) ≡ Some l → Ran (Acts r) a b old l new m lost → Ran (ActsOn Acts r) a b old lanes new (slice_set lanes (lane_of r) m) lost
+ran_on Acts r lanes l m old new a b lost is ran =
+    record { entries = ran.entries; output = ran.output; sent = ran.sent; acts = (l, m, is, ran.acts, refl); extends = ran.extends; puts = ran.puts; all = ran.all }
+
+-- the same of sessions
+
+pub below : (lanes : ℕ) (r : Record) → IsRecord lanes r → lane_of r < lanes
+below lanes (Arrival lane bytes) valid = valid.0
+below lanes (Step_of lane) valid = valid
+below lanes (Close_of lane) valid = valid
+
+pub session_at : (sessions : List Session) (i : ℕ) (d : Session) → i < length sessions → slice_get (lanes_of sessions) i ≡ Some (sess.lane_of (slice_index_or sessions i d))
+session_at sessions i d within = slice_get-map sess.lane_of sessions i ∙ ap (option_map sess.lane_of) (slice_get-get_or sessions i d within)
+
+pub session_ran : {M D : Type 0} (Acts : Record → Lane → Deed → Lane → Type 0) (r : Record) (sessions : List Session) (i : ℕ) (d t : Session) (old new : Core M D) (a b : Option (List ℕ)) (lost : List ℕ)
+    → i ≡ lane_of r → i < length sessions → Ran (Acts r) a b old (sess.lane_of (slice_index_or sessions i d)) new (sess.lane_of t) lost
+    → Ran (ActsOn Acts r) a b old (lanes_of sessions) new (lanes_of (slice_set sessions i t)) lost
+session_ran Acts r sessions i d t old new a b lost at within ran =
+    let lanes : List Lane = lanes_of sessions in
+    let found : slice_get lanes (lane_of r) ≡ Some (sess.lane_of (slice_index_or sessions i d)) = ap (slice_get lanes) (sym at) ∙ session_at sessions i d within in
+    let same : lanes_of (slice_set sessions i t) ≡ slice_set lanes (lane_of r) (sess.lane_of t) = map-set sess.lane_of sessions i t ∙ ap (λ (k : ℕ). slice_set lanes k (sess.lane_of t)) at in
+    subst (λ (last : List Lane). Ran (ActsOn Acts r) a b old lanes new last lost) (sym same) (ran_on Acts r lanes (sess.lane_of (slice_index_or sessions i d)) (sess.lane_of t) old new a b lost found ran)
+
+pub session_begun : {M D : Type 0} (Acts : Record → Lane → Deed → Lane → Type 0) (r : Record) (sessions : List Session) (i : ℕ) (d : Session) (old new : Core M D) (a b : Option (List ℕ))
+    → i ≡ lane_of r → i < length sessions → ((m : Lane) × (lost : List ℕ) × Ran (Acts r) a b old (sess.lane_of (slice_index_or sessions i d)) new m lost)
+    → (last : List Lane) × (lost : List ℕ) × Ran (ActsOn Acts r) a b old (lanes_of sessions) new last lost
+session_begun Acts r sessions i d old new a b at within begun =
+    let lanes : List Lane = lanes_of sessions in
+    let found : slice_get lanes (lane_of r) ≡ Some (sess.lane_of (slice_index_or sessions i d)) = ap (slice_get lanes) (sym at) ∙ session_at sessions i d within in
+    (slice_set lanes (lane_of r) begun.0, begun.1, ran_on Acts r lanes (sess.lane_of (slice_index_or sessions i d)) begun.0 old new a b begun.1 found begun.2)
+
+pub session_agrees : {M D : Type 0} (sessions : List Session) (i : ℕ) (d : Session) (c : Core M D) → i < length sessions → AllAgree (lanes_of sessions) c → Agrees (sess.lane_of (slice_index_or sessions i d)).phase i c
+session_agrees sessions i d c within agree = agree i (sess.lane_of (slice_index_or sessions i d)) (session_at sessions i d within)
+
+pub sessions_agree : {M D : Type 0} (sessions : List Session) (i : ℕ) (t : Session) (old new : Core M D) → i < length sessions
+    → AllAgree (lanes_of sessions) old → KeepsOthers i old new → Agrees (sess.lane_of t).phase i new → AllAgree (lanes_of (slice_set sessions i t)) new
+sessions_agree sessions i t old new within agree keeps agrees =
+    subst (λ (lanes : List Lane). AllAgree lanes new) (sym (map-set sess.lane_of sessions i t))
+    (all_agree (lanes_of sessions) i (sess.lane_of t) old new (omega (arith, length-map sessions sess.lane_of, within)) agree keeps agrees)
+
+-- new connections
+
+get_replicate : {X : Type 0} (n i : ℕ) (x y : X) → slice_get (replicate n x) i ≡ Some y → y ≡ x
+get_replicate n i x y is =
+    let within : i < n = omega (arith, slice_get_within (replicate n x) i y is, length-replicate n x) in
+    sym (get_or_from_slice_get (replicate n x) i y x is) ∙ get_or-replicate n i x x within
+
+pub fresh_agree : {M D : Type 0} (n : ℕ) (lanes : List Lane) (c : Core M D) → lanes ≡ replicate n fresh → AllAgree lanes c
+fresh_agree n lanes c is place l found =
+    let this : l ≡ fresh = get_replicate n place fresh l (ap (λ (w : List Lane). slice_get w place) (sym is) ∙ found) in
+    subst (λ (x : Lane). Agrees x.phase place c) (sym this) tt
+
+pub fresh_more : (sessions : List Session) (n : ℕ) (s : Session) → lanes_of sessions ≡ replicate n fresh → sess.lane_of s ≡ fresh → lanes_of (sessions ++ s ∷ []) ≡ replicate (n + 1) fresh
+fresh_more sessions n s all is =
+    map-append sess.lane_of sessions (s ∷ []) ∙ ap (λ (w : List Lane). w ++ sess.lane_of s ∷ []) all ∙ ap (λ (l : Lane). replicate n fresh ++ l ∷ []) is ∙ replicate-append-replicate n 1 fresh
