@@ -5,4 +5,14 @@
 #![tactic(auto)]
 
 #[cfg(test)]
+mod commands;
+#[cfg(test)]
+mod lanes;
+#[cfg(test)]
+mod reservations;
+#[cfg(test)]
+mod shows;
+#[cfg(test)]
+mod talk;
+#[cfg(test)]
 mod tests;

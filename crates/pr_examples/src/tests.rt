@@ -1,26 +1,28 @@
+use crate::talk::bytes_of;
 use pr_io::{MemSink, MemSource, Sink, Source, SureDisk, SureMedium};
 use pr_tool::{Exit, replay_main};
 use std::alloc::Global;
 use std::test::*;
 
 /// A Login of version 1 by the name 11h at port 1, whose tag is 1.
-const LOGIN: &str = "00000014 01000000 00000001 01000001 0000000000000011";
+pub const LOGIN: &str = "00000014 01000000 00000001 01000001 0000000000000011";
 
 /// The reply that accepts it.
-const ACCEPTED: &str = "0000000C 81000000 00000001 00000000";
+pub const ACCEPTED: &str = "0000000C 81000000 00000001 00000000";
 
 /// A TEST UNIT READY whose tag is 2.
-const TEST_UNIT_READY: &str =
+pub const TEST_UNIT_READY: &str =
     "0000001C 02000000 00000002 06000000 00000000000000000000000000000000";
 
 /// The reply that the power has come on: 6/29/00.
-const POWER_ON: &str = "0000001E 82000000 00000002 02120000 700006000000000A00000000290000000000";
+pub const POWER_ON: &str =
+    "0000001E 82000000 00000002 02120000 700006000000000A00000000290000000000";
 
 /// A Logout whose tag is 9.
-const LOGOUT: &str = "00000008 03000000 00000009";
+pub const LOGOUT: &str = "00000008 03000000 00000009";
 
 /// Its reply.
-const LEFT: &str = "00000008 83000000 00000009";
+pub const LEFT: &str = "00000008 83000000 00000009";
 
 /// The reply to a command of tag 4 that there isn't: 5/20/00.
 const NO_COMMAND: &str = "0000001E 82000000 00000004 02120000 700005000000000A00000000200000000000";
@@ -66,24 +68,6 @@ const REPLIES: [&str; 14] = [
     "00000014 82000000 0000000D 00000000 00000003 00000000",
     LEFT,
 ];
-
-/// Adds the bytes that a hexadecimal text spells, whose words have whole bytes.
-fn add_hex(alloc: Global, bytes: &mut Vec<u8>, text: &str) -> Result<(), Fail> {
-    for word in text.split_ascii_whitespace() {
-        let piece = hex::decode(alloc, word)?;
-        bytes.extend_from_slice(&piece)?;
-    }
-    Ok(())
-}
-
-/// The bytes that the texts spell, one after another.
-fn bytes_of(alloc: Global, texts: &[&str]) -> Result<Vec<u8>, Fail> {
-    let mut bytes = Vec::new(alloc);
-    for text in texts {
-        add_hex(alloc, &mut bytes, text)?;
-    }
-    Ok(bytes)
-}
 
 /// Adds the record that the bytes arrive on lane 0, which is also the form of an output record.
 fn add_record(records: &mut Vec<u8>, bytes: &[u8]) -> Result<(), Fail> {
@@ -196,7 +180,7 @@ fn a_whole_session_is_answered(rt: HostRuntime) -> Result<(), Fail> {
 }
 
 /// Frames that each arrive whole before a step of their own, and what they are answered.
-const CONVERSATIONS: [(&str, &[&str], &[&str]); 7] = [
+const CONVERSATIONS: [(&str, &[&str], &[&str]); 6] = [
     (
         "a Login of another version, then a right one",
         &[
@@ -235,12 +219,11 @@ const CONVERSATIONS: [(&str, &[&str], &[&str]); 7] = [
         &[ACCEPTED, LEFT],
     ),
     (
-        "commands that leave the unit attention: INQUIRY, REPORT LUNS, REQUEST SENSE",
+        "INQUIRY and REPORT LUNS leave the unit attention",
         &[
             LOGIN,
             "0000001C 02000000 00000004 06000000 120000002400 00000000000000000000",
             "0000001C 02000000 00000004 0C000000 A00000000000000000100000 00000000",
-            "0000001C 02000000 00000004 06000000 030000001200 00000000000000000000",
             TEST_UNIT_READY,
             "0000001C 02000000 00000003 06000000 00000000000000000000000000000000",
         ],
@@ -248,22 +231,8 @@ const CONVERSATIONS: [(&str, &[&str], &[&str]); 7] = [
             ACCEPTED,
             NO_COMMAND,
             NO_COMMAND,
-            NO_COMMAND,
             POWER_ON,
             "0000000C 82000000 00000003 00000000",
-        ],
-    ),
-    (
-        "another logical unit",
-        &[
-            LOGIN,
-            "0000001C 02000001 00000002 06000000 00000000000000000000000000000000",
-            "0000001C 02000001 00000003 06000000 00000000000000000000000000000000",
-        ],
-        &[
-            ACCEPTED,
-            "0000001E 82000001 00000002 02120000 700006000000000A00000000290000000000",
-            "0000001E 82000001 00000003 02120000 700005000000000A00000000200000000000",
         ],
     ),
 ];
@@ -345,42 +314,6 @@ fn the_first_frame_is_a_login(rt: HostRuntime) -> Result<(), Fail> {
         assert_eq!(rt; exit, Exit::Done, "{frame}");
         let mut wanted = Vec::new(alloc);
         add_record(&mut wanted, &reject(alloc, 5, 0)?)?;
-        assert_eq!(rt; sink.bytes(), wanted.as_slice(), "{frame}");
-    }
-    Ok(())
-}
-
-/// Commands of tag 4 that are none of those that there are.
-const NO_COMMANDS: [&str; 11] = [
-    // no operation code of a command
-    "0000001C 02000000 00000004 06000000 FF000000000000000000000000000000",
-    // INQUIRY, REPORT LUNS, REQUEST SENSE
-    "0000001C 02000000 00000004 06000000 120000002400 00000000000000000000",
-    "0000001C 02000000 00000004 0C000000 A00000000000000000100000 00000000",
-    "0000001C 02000000 00000004 06000000 030000001200 00000000000000000000",
-    // READ RESERVATION
-    "0000001C 02000000 00000004 0A000000 5E010000000000002000 000000000000",
-    // REGISTER AND IGNORE EXISTING KEY with APTPL one
-    "00000034 02000000 00000004 0A000000 5F060000000000001800 000000000000 0000000000000000 0000000090010001 0000000001000000",
-    // the same with a list of 23 bytes, and with one that is cut to 23 bytes
-    "00000033 02000000 00000004 0A000000 5F060000000000001700 000000000000 0000000000000000 0000000090010001 00000000000000",
-    "00000033 02000000 00000004 0A000000 5F060000000000001800 000000000000 0000000000000000 0000000090010001 00000000000000",
-    // TEST UNIT READY with NACA one, with a CDB of 5 bytes, and with a byte of data
-    "0000001C 02000000 00000004 06000000 000000000004 00000000000000000000",
-    "0000001C 02000000 00000004 05000000 0000000000 0000000000000000000000",
-    "0000001D 02000000 00000004 06000000 000000000000 00000000000000000000 00",
-];
-
-#[test]
-fn other_commands_are_refused(rt: HostRuntime) -> Result<(), Fail> {
-    let alloc = rt.alloc();
-    let keys = "0000001C 02000000 00000005 0A000000 5E000000000000010000 000000000000";
-    let nobody = "00000014 82000000 00000005 00000000 00000000 00000000";
-    for frame in NO_COMMANDS {
-        let frames = [LOGIN, TEST_UNIT_READY, frame, keys];
-        let (exit, sink) = replay(alloc, schedule_of(alloc, &frames)?)?;
-        assert_eq!(rt; exit, Exit::Done, "{frame}");
-        let wanted = output_of(alloc, &[ACCEPTED, POWER_ON, NO_COMMAND, nobody])?;
         assert_eq!(rt; sink.bytes(), wanted.as_slice(), "{frame}");
     }
     Ok(())
