@@ -1,10 +1,12 @@
 #!/usr/bin/env python3
-"""Measures the program's `replay 1`: commands a second, instructions a command, resident memory.
+"""Measures the program's `replay`: commands a second, instructions a command, resident memory.
 
 Usage: bench/replay.py [COMMANDS]     (commands of a timed run; 200000 where none are given)
 
-A schedule logs in, takes the attention of the power-up and registers a key, and then has so many times the same
-command, each as an arrival and a step. Times come from the fastest of several runs, less that of a run with no such
+A schedule of one lane logs in, takes the attention of the power-up and registers a key, and then has so many times the
+same command, each as an arrival and a step. A schedule of 64 lanes logs each in, and then each in turn registers,
+reserves and releases. With a type of registrants only, each release tells the other 63, so each lane begins with a
+command that takes that attention. Times come from the fastest of several runs, less that of a run with no such
 command. Instructions are counted by callgrind over two lengths, and their difference is divided, so that start-up
 cancels. Memory is the peak that the system tells of the process when the last reply has come.
 
@@ -20,20 +22,20 @@ import time
 
 HOME = os.path.dirname(os.path.dirname(os.path.abspath(__file__)))
 PROGRAM = os.path.join(HOME, "crates", "prtool", "out", "prtool")
-WORDS = [PROGRAM, "replay", "1"]
+LANES = 64
 ROUNDS = 7
 COUNTED = (2000, 12000)
 
 MOST_INSTRUCTIONS = 3000  # of a TEST UNIT READY, from arrival to reply
-MOST_MEMORY = 8 * 1024  # KiB resident
+MOST_MEMORY = 8 * 1024  # KiB resident, with one lane
+MOST_MEMORY_OF_ALL = 72 * 1024  # KiB resident, with 64 lanes
+LEAST_SHARE = 0.5  # of the rate of a TEST UNIT READY on one lane, where 64 lanes reserve
 
-STEP = bytes.fromhex("00010000")
 
-
-def arrivals(text):
+def arrivals(text, lane):
     """The text as it arrives: in pieces of at most 65535 bytes."""
     pieces = (text[at : at + 65535] for at in range(0, len(text), 65535))
-    return b"".join(b"\0\0" + len(piece).to_bytes(2, "big") + piece for piece in pieces)
+    return b"".join(bytes([lane, 0]) + len(piece).to_bytes(2, "big") + piece for piece in pieces)
 
 
 def frame(kind, tag, body):
@@ -44,18 +46,33 @@ def command(tag, cdb, data=b""):
     return frame(2, tag, bytes([len(cdb), 0, 0, 0]) + cdb.ljust(16, b"\0") + data)
 
 
-def turn(text):
-    return arrivals(text) + STEP
+def turn(text, lane=0):
+    return arrivals(text, lane) + bytes([lane, 1, 0, 0])
 
 
 TEST_UNIT_READY = bytes(6)
 REGISTER_AND_IGNORE = bytes.fromhex("5F060000000000001800")
 READ_KEYS = bytes.fromhex("5E000000000000010000")
-LIST = bytes(8) + (0x90010001).to_bytes(8, "big") + bytes(8)
-LOGIN = bytes.fromhex("010000010000000000000011")
+LONGEST = bytes(524288)
+
+
+def login(lane):
+    return bytes.fromhex("01000001") + (0x11 + lane).to_bytes(8, "big")
+
+
+def keys(key, action_key):
+    """A parameter list."""
+    return key.to_bytes(8, "big") + action_key.to_bytes(8, "big") + bytes(8)
+
+
+def reserve(action, kind):
+    return bytes([0x5F, action, kind]) + bytes.fromhex("00000000001800")
+
 
 OPENING = (
-    turn(frame(1, 1, LOGIN)) + turn(command(2, TEST_UNIT_READY)) + turn(command(3, REGISTER_AND_IGNORE, LIST))
+    turn(frame(1, 1, login(0)))
+    + turn(command(2, TEST_UNIT_READY))
+    + turn(command(3, REGISTER_AND_IGNORE, keys(0, 0x90010001)))
 )
 
 
@@ -63,33 +80,57 @@ def schedule(cdb, count):
     return OPENING + b"".join(turn(command(tag, cdb)) for tag in range(4, 4 + count))
 
 
-def seconds(path, folder):
+def cluster(kind, rounds):
+    """So many rounds of all lanes, and how many commands these are."""
+    frames = []
+    if kind > 4:
+        frames.append(command(2, TEST_UNIT_READY))
+    key = 0x90010001
+    frames += [command(3, REGISTER_AND_IGNORE, keys(0, key))]
+    frames += [command(4, reserve(1, kind), keys(key, 0)), command(5, reserve(2, kind), keys(key, 0))]
+    opening = b"".join(
+        turn(frame(1, 1, login(lane)), lane)
+        + turn(command(2, TEST_UNIT_READY), lane)
+        + turn(command(3, REGISTER_AND_IGNORE, keys(0, key)), lane)
+        for lane in range(LANES)
+    )
+    one = b"".join(turn(text, lane) for lane in range(LANES) for text in frames)
+    return opening + rounds * one, rounds * LANES * len(frames)
+
+
+def words(lanes):
+    return [PROGRAM, "replay", str(lanes)]
+
+
+def seconds(path, folder, lanes):
     best = None
     for _ in range(ROUNDS):
         with open(path, "rb") as source, open(os.path.join(folder, "out"), "wb") as sink:
             start = time.perf_counter()
-            subprocess.run(WORDS, stdin=source, stdout=sink, check=True)
+            subprocess.run(words(lanes), stdin=source, stdout=sink, check=True)
             took = time.perf_counter() - start
         best = took if best is None else min(best, took)
     return best
 
 
-def instructions(path):
+def instructions(path, lanes):
     with open(path, "rb") as source:
         told = subprocess.run(
-            ["valgrind", "--tool=callgrind", "--callgrind-out-file=/dev/null", *WORDS],
+            ["valgrind", "--tool=callgrind", "--callgrind-out-file=/dev/null", *words(lanes)],
             stdin=source, stdout=subprocess.DEVNULL, stderr=subprocess.PIPE, text=True, check=True,
         ).stderr
     return int(re.search(r"Collected : (\d+)", told).group(1))
 
 
-def memory():
+def memory(lanes):
     """The peak of the resident memory, in KiB, asked for while the program still waits for more.
 
-    Its schedule ends with the longest frame, whose data-out fills the ring and the work buffer.
+    Each lane ends with the longest frame, whose data-out fills the ring and the work buffer.
     """
-    text = schedule(READ_KEYS, 100) + turn(command(104, TEST_UNIT_READY, bytes(524288)))
-    with subprocess.Popen(WORDS, stdin=subprocess.PIPE, stdout=subprocess.PIPE) as child:
+    text = b"".join(
+        turn(frame(1, 1, login(lane)), lane) + turn(command(2, TEST_UNIT_READY, LONGEST), lane) for lane in range(lanes)
+    )
+    with subprocess.Popen(words(lanes), stdin=subprocess.PIPE, stdout=subprocess.PIPE) as child:
         child.stdin.write(text)
         child.stdin.flush()
         time.sleep(1)
@@ -97,6 +138,7 @@ def memory():
             peak = int(re.search(r"VmHWM:\s+(\d+) kB", status.read()).group(1))
         child.stdin.close()
         child.stdout.read()
+    print(f"resident memory with {lanes} lanes: {peak} KiB at its peak")
     return peak
 
 
@@ -107,18 +149,36 @@ def write(folder, name, text):
     return path
 
 
+def told(name, rate, each):
+    counted = "not counted" if each is None else f"{each:.0f}"
+    print(f"{name}: {rate:.0f} commands/s, instructions a command {counted}")
+
+
 def measure(folder, name, cdb, count):
     """Commands a second, and instructions a command or None."""
-    opening = seconds(write(folder, "opening", schedule(cdb, 0)), folder)
+    opening = seconds(write(folder, "opening", schedule(cdb, 0)), folder, 1)
     path = write(folder, "schedule", schedule(cdb, count))
-    rate = count / (seconds(path, folder) - opening)
+    rate = count / (seconds(path, folder, 1) - opening)
     each = None
     if shutil.which("valgrind"):
-        few, many = (instructions(write(folder, "counted", schedule(cdb, n))) for n in COUNTED)
+        few, many = (instructions(write(folder, "counted", schedule(cdb, n)), 1) for n in COUNTED)
         each = (many - few) / (COUNTED[1] - COUNTED[0])
-    told = "not counted" if each is None else f"{each:.0f}"
-    print(f"{name}: {rate:.0f} commands/s, instructions a command {told}")
-    return each
+    told(name, rate, each)
+    return rate, each
+
+
+def measure_cluster(folder, name, kind, count):
+    """Commands a second of 64 lanes."""
+    opening = seconds(write(folder, "opening", cluster(kind, 0)[0]), folder, LANES)
+    text, commands = cluster(kind, count // (LANES * 3))
+    rate = commands / (seconds(write(folder, "schedule", text), folder, LANES) - opening)
+    each = None
+    if shutil.which("valgrind"):
+        (few, a), (many, b) = (cluster(kind, rounds) for rounds in (5, 25))
+        counts = [instructions(write(folder, "counted", text), LANES) for text in (few, many)]
+        each = (counts[1] - counts[0]) / (b - a)
+    told(name, rate, each)
+    return rate
 
 
 def main():
@@ -127,11 +187,18 @@ def main():
         return 2
     count = int(sys.argv[1]) if len(sys.argv) > 1 else 200000
     with tempfile.TemporaryDirectory() as folder:
-        each = measure(folder, "TEST UNIT READY", TEST_UNIT_READY, count)
+        rate, each = measure(folder, "TEST UNIT READY", TEST_UNIT_READY, count)
         measure(folder, "READ KEYS", READ_KEYS, count)
-    peak = memory()
-    print(f"resident memory: {peak} KiB at its peak")
-    holds = peak < MOST_MEMORY and (each is None or each <= MOST_INSTRUCTIONS)
+        rates = [
+            measure_cluster(folder, f"64 lanes register, reserve and release type {kind}h", kind, count)
+            for kind in (1, 5)
+        ]
+    holds = (
+        memory(1) < MOST_MEMORY
+        and memory(LANES) < MOST_MEMORY_OF_ALL
+        and (each is None or each <= MOST_INSTRUCTIONS)
+        and min(rates) >= LEAST_SHARE * rate
+    )
     counted = "" if each is not None else " (instructions weren't counted: there is no valgrind)"
     print(f"bounds: {'hold' if holds else 'BROKEN'}{counted}")
     return 0 if holds else 1
