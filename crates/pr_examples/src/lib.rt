@@ -5,6 +5,8 @@
 #![tactic(auto)]
 
 #[cfg(test)]
+mod attentions;
+#[cfg(test)]
 mod commands;
 #[cfg(test)]
 mod lanes;
