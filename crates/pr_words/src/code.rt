@@ -25,6 +25,100 @@ pub struct Sense {
     pub info: Option<u32>,
 }
 
+/// The codes that this target gives, by the names that SPC-4 has for them (ASC and ASCQ assignments).
+impl Code {
+    /// No code.
+    pub const NO_SENSE: Code = Code {
+        key: 0,
+        asc: 0,
+        ascq: 0,
+    };
+
+    /// LOGICAL UNIT NOT SUPPORTED.
+    pub const LOGICAL_UNIT_NOT_SUPPORTED: Code = Code {
+        key: 5,
+        asc: 0x25,
+        ascq: 0,
+    };
+
+    /// INVALID COMMAND OPERATION CODE.
+    pub const INVALID_COMMAND_OPERATION_CODE: Code = Code {
+        key: 5,
+        asc: 0x20,
+        ascq: 0,
+    };
+
+    /// INVALID FIELD IN CDB.
+    pub const INVALID_FIELD_IN_CDB: Code = Code {
+        key: 5,
+        asc: 0x24,
+        ascq: 0,
+    };
+
+    /// LOGICAL BLOCK ADDRESS OUT OF RANGE.
+    pub const LOGICAL_BLOCK_ADDRESS_OUT_OF_RANGE: Code = Code {
+        key: 5,
+        asc: 0x21,
+        ascq: 0,
+    };
+
+    /// PARAMETER LIST LENGTH ERROR.
+    pub const PARAMETER_LIST_LENGTH_ERROR: Code = Code {
+        key: 5,
+        asc: 0x1A,
+        ascq: 0,
+    };
+
+    /// INVALID FIELD IN PARAMETER LIST.
+    pub const INVALID_FIELD_IN_PARAMETER_LIST: Code = Code {
+        key: 5,
+        asc: 0x26,
+        ascq: 0,
+    };
+
+    /// INVALID RELEASE OF PERSISTENT RESERVATION.
+    pub const INVALID_RELEASE_OF_PERSISTENT_RESERVATION: Code = Code {
+        key: 5,
+        asc: 0x26,
+        ascq: 4,
+    };
+
+    /// INSUFFICIENT REGISTRATION RESOURCES.
+    pub const INSUFFICIENT_REGISTRATION_RESOURCES: Code = Code {
+        key: 5,
+        asc: 0x55,
+        ascq: 4,
+    };
+
+    /// POWER ON, RESET, OR BUS DEVICE RESET OCCURRED.
+    pub const POWER_ON: Code = Code {
+        key: 6,
+        asc: 0x29,
+        ascq: 0,
+    };
+
+    /// RESERVATIONS PREEMPTED.
+    pub const RESERVATIONS_PREEMPTED: Code = Code {
+        key: 6,
+        asc: 0x2A,
+        ascq: 3,
+    };
+
+    /// RESERVATIONS RELEASED.
+    pub const RESERVATIONS_RELEASED: Code = Code {
+        key: 6,
+        asc: 0x2A,
+        ascq: 4,
+    };
+
+    /// REGISTRATIONS PREEMPTED.
+    pub const REGISTRATIONS_PREEMPTED: Code = Code {
+        key: 6,
+        asc: 0x2A,
+        ascq: 5,
+    };
+}
+
 impl Status {
     /// The status byte.
     pub fn code(self) -> u8
