@@ -6,6 +6,8 @@ mod fields;
 mod limits;
 mod nexus;
 mod reservation;
+mod role;
+mod task;
 
 pub use code::{Code, Sense, Status};
 pub use fields::{get_u16, get_u32, get_u64, put_u16, put_u32, put_u64};
@@ -14,3 +16,5 @@ pub use limits::{
 };
 pub use nexus::{Key, Nexus, Pair, Side, is_same, stands_before};
 pub use reservation::{Kind, Reservation};
+pub use role::Role;
+pub use task::Way;
