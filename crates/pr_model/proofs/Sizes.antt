@@ -6,8 +6,7 @@ use Rattle.pr_grammar.specs.declared.cdb.Command.{Command}
 use Rattle.pr_grammar.specs.declared.cdb.Command.TheVariants as commands
 use Rattle.pr_grammar.specs.Cdbs.{operation_code, command_of}
 use Rattle.pr_model.specs.Acts.{Verdict, Good, Conflict, Bad}
-use Rattle.pr_model.specs.Keeping.{Kept, Nothing, Some_kept}
-use Rattle.pr_model.specs.Worlds.{Blocks, World, opened, set_at}
+use Rattle.pr_model.specs.Worlds.{Blocks, World, set_at}
 use Rattle.pr_model.specs.Entries as entries
 use Rattle.pr_model.specs.Entries.{Act, Out, Entry}
 use Rattle.pr_model.specs.Commands.{Answer, answer, good, checking, sense_data, unsupported_unit, refused_where, attention_check, is_unconditional, checks, first_or, by_verdict, hand_out, served, answered}
@@ -81,12 +80,8 @@ login_keeps : (w next : World) (b : Bool) → next.medium ≡ w.medium → (cond
 login_keeps w next true same = same
 login_keeps w next false same = refl
 
-opened_keeps : (medium : Blocks) (value : Kept) → (opened medium value).medium ≡ medium
-opened_keeps medium Nothing = refl
-opened_keeps medium (Some_kept pairs reservation) = refl
-
 power_keeps : (w : World) (who : ℕ) (n : Nexus) (out : Out) → (moved_by w who n entries.Power out).medium ≡ w.medium
-power_keeps w who n (entries.Restored value) = opened_keeps w.medium value
+power_keeps w who n (entries.Restored value) = refl
 power_keeps w who n (entries.Login_code code) = refl
 power_keeps w who n (entries.Ended status sense data_in) = refl
 power_keeps w who n entries.Started = refl

@@ -42,19 +42,20 @@ set_at f n v = λ m. if same_nexus m n then v else f m
 abbrev pub is_known : List Nexus → Nexus → Bool
 is_known known n = list_any (same_nexus n) known
 
-abbrev pub opened_with : Blocks → List Pair → Reservation → Bool → World
-opened_with medium pairs reservation preserve =
+-- registrations and reservation after a power-up: what was kept, and generation 0 (SPC-4, preserving persistent reservations)
+abbrev pub restored : Kept → Standing
+restored Nothing = record { pairs = []; reservation = Free; generation = 0; preserve = false }
+restored (Some_kept pairs reservation) = record { pairs = pairs; reservation = reservation; generation = 0; preserve = true }
+
+-- the world after a power-up, over a medium: nobody is logged in, and each nexus has the attention of the power-up (SAM-5, power on)
+abbrev pub opened : Blocks → Kept → World
+opened medium kept =
     record {
       medium = medium;
-      standing = record { pairs = pairs; reservation = reservation; generation = 0; preserve = preserve };
-      known = map (λ (p : Pair). p.nexus) pairs;
+      standing = restored kept;
+      known = map (λ (p : Pair). p.nexus) (restored kept).pairs;
       attentions = λ _. powered_on ∷ [];
       owner = λ _. None;
       task = λ _. None;
       doubts = [];
     }
-
--- the world after a power-up, over a medium: what was kept, generation 0, nobody logged in, and the attention of the power-up in every list (SAM-5, power on)
-abbrev pub opened : Blocks → Kept → World
-opened medium Nothing = opened_with medium [] Free false
-opened medium (Some_kept pairs reservation) = opened_with medium pairs reservation true
