@@ -4,7 +4,8 @@ use Rattle.pr_words.specs.declared.nexus.Nexus.{Nexus}
 use Rattle.pr_words.specs.declared.code.Code.{Code}
 use Rattle.pr_grammar.specs.declared.cdb.Command.{Command}
 use Rattle.pr_grammar.specs.declared.cdb.Command.TheVariants.{ReserveOut as Reserve_out}
-use Rattle.pr_grammar.specs.Cdbs.{operation_code, is_naca, cdb_length, command_of}
+use Rattle.pr_grammar.specs.Operations.{length_of}
+use Rattle.pr_grammar.specs.Cdbs.{operation_code, is_naca, command_of}
 use Rattle.pr_grammar.specs.OutLists.{list_of}
 use Rattle.pr_model.specs.Limits.{LIMIT}
 use Rattle.pr_model.specs.Acts.{ReserveOut, acted}
@@ -19,8 +20,8 @@ use Rattle.pr_core.specs.Outs.{out_of}
 abbrev pub cdb_checks : World → ℕ → List ℕ → Command → List (Option Answer) → List (Option Answer)
 cdb_checks w op cdb command others =
     refused_where (not (is_served op)) w invalid_operation
-    ∷ refused_where (nat_lt (length cdb) (cdb_length op)) w invalid_field
-    ∷ refused_where (is_naca (cdb_length op - 1) cdb) w invalid_field
+    ∷ refused_where (nat_lt (length cdb) (length_of op)) w invalid_field
+    ∷ refused_where (is_naca (length_of op - 1) cdb) w invalid_field
     ∷ refused_where (has_bad_field command) w invalid_field
     ∷ others
 
