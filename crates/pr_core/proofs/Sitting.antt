@@ -8,7 +8,8 @@ use Rattle.pr_words.specs.Orders.{same_nexus}
 use Rattle.pr_grammar.specs.Standings.{Standing}
 use Rattle.pr_model.specs.Attentions.{is_attention}
 use Rattle.pr_model.specs.Worlds.{Blocks, World, set_at}
-use Rattle.pr_model.specs.Commands.{attention_check, is_unconditional, hand_out, no_sense}
+use Rattle.pr_grammar.specs.Operations.{is_unconditional}
+use Rattle.pr_model.specs.Commands.{attention_check, hand_out, no_sense}
 use Rattle.pr_model.proofs.Orders.{same_is}
 use Rattle.pr_table.specs.Tables.{standing_of}
 use Rattle.pr_core.specs.declared.seats.Seat.{Seat}

@@ -10,11 +10,9 @@ ghost use Rattle.pr_core.specs.Outs.{out_of, IsProper};
 ghost use Rattle.pr_core.specs.Admits.{Admits, PassesAttention, FitsCdb, FitsData, Serves, Senses, Reserves};
 
 use crate::answers::CommandOut;
-use crate::checks::{
-    INVALID_OPERATION, UNSUPPORTED_UNIT, check_cdb, check_data, is_elsewhere, is_unconditional,
-};
+use crate::checks::{INVALID_OPERATION, UNSUPPORTED_UNIT, check_cdb, check_data, is_elsewhere};
 use crate::state::State;
-use pr_cdb::Command;
+use pr_cdb::{Command, is_unconditional};
 use pr_param::{read_out_list, write_capabilities, write_full, write_keys, write_reservation};
 use pr_sense::{write_descriptor, write_fixed};
 use pr_table::{OutAction, Verdict};

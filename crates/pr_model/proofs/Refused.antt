@@ -4,7 +4,8 @@ use Rattle.pr_words.specs.declared.nexus.Nexus.{Nexus}
 use Rattle.pr_words.specs.declared.code.Code.{Code}
 use Rattle.pr_grammar.specs.declared.cdb.Command.{Command}
 use Rattle.pr_grammar.specs.declared.cdb.Command.TheVariants as commands
-use Rattle.pr_grammar.specs.Cdbs.{operation_code, command_of, cdb_length, is_naca}
+use Rattle.pr_grammar.specs.Operations.{length_of}
+use Rattle.pr_grammar.specs.Cdbs.{operation_code, command_of, is_naca}
 use Rattle.pr_grammar.specs.OutLists.{list_of}
 use Rattle.pr_model.specs.Acts.{Verdict, Good, Conflict, Bad}
 use Rattle.pr_model.specs.Worlds.{World}
@@ -65,9 +66,9 @@ checks_leave w n lun op cdb command sent =
         (
           plain (not (is_served op)) invalid_operation,
           (
-            plain (nat_lt (length cdb) (cdb_length op)) invalid_field,
+            plain (nat_lt (length cdb) (length_of op)) invalid_field,
             (
-              plain (is_naca (cdb_length op - 1) cdb) invalid_field,
+              plain (is_naca (length_of op - 1) cdb) invalid_field,
               (
                 plain (has_bad_field command) invalid_field,
                 (

@@ -5,11 +5,12 @@ use Rattle.pr_words.specs.declared.code.Code.{Code}
 use Rattle.pr_grammar.specs.declared.cdb.Command.{Command}
 use Rattle.pr_grammar.specs.declared.cdb.Command.TheVariants as commands
 use Rattle.pr_grammar.specs.Cdbs.{operation_code, command_of}
+use Rattle.pr_grammar.specs.Operations.{is_unconditional}
 use Rattle.pr_model.specs.Acts.{Verdict, Good, Conflict, Bad}
 use Rattle.pr_model.specs.Worlds.{Blocks, World, set_at}
 use Rattle.pr_model.specs.Entries as entries
 use Rattle.pr_model.specs.Entries.{Act, Out, Entry}
-use Rattle.pr_model.specs.Commands.{Answer, answer, good, checking, sense_data, unsupported_unit, refused_where, attention_check, is_unconditional, checks, first_or, by_verdict, hand_out, served, answered}
+use Rattle.pr_model.specs.Commands.{Answer, answer, good, checking, sense_data, unsupported_unit, refused_where, attention_check, checks, first_or, by_verdict, hand_out, served, answered}
 use Rattle.pr_model.specs.Histories.{login_code, logged_in, moved, moved_by}
 use Rattle.pr_model.specs.Laws.{KeepsSize}
 
