@@ -1,6 +1,7 @@
 //! The target's core: each call makes one entry of a legal history.
 #![tactic(auto)]
 
+mod admitted;
 mod answers;
 mod checks;
 mod commands;

@@ -1,0 +1,26 @@
+use pr_param::OutList;
+use pr_words::{InService, OutService};
+
+/// A command that no check refuses, with all that it needs: nothing of its CDB or of its parameter
+/// list is read again.
+#[derive(Clone, Copy, Debug, PartialEq, Eq)]
+pub enum Admitted {
+    TestUnitReady,
+    /// `allocation` counts bytes.
+    RequestSense {
+        descriptor: bool,
+        allocation: u8,
+    },
+    /// `allocation` counts bytes.
+    ReserveIn {
+        service: InService,
+        allocation: u16,
+    },
+    /// The scope and the type have 4 bits each.
+    ReserveOut {
+        service: OutService,
+        scope: u8,
+        kind: u8,
+        list: OutList,
+    },
+}
