@@ -43,8 +43,8 @@ abbrev pub Carries : Command → List ℕ → Admitted → Type 0
 Carries command sent admitted.TestUnitReady = command ≡ TestUnitReady
 Carries command sent (admitted.RequestSense descriptor allocation) = command ≡ RequestSense descriptor allocation
 Carries command sent (admitted.ReserveIn service allocation) = command ≡ ReserveIn (in_service_code service) allocation
-Carries command sent (admitted.ReserveOut service scope kind list) =
-    (length : ℕ) × (command ≡ ReserveOut (out_service_code service) scope kind length) × (list ≡ list_of sent)
+Carries command sent (admitted.ReserveOut request list) =
+    (length : ℕ) × (command ≡ ReserveOut (out_service_code request.service) request.scope request.kind length) × (list ≡ list_of sent)
 
 -- a command passes its own checks, or is refused by them or because it isn't served yet
 abbrev pub PassesCommand : Command → List ℕ → Result Admitted Code → Type 0

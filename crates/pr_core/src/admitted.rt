@@ -1,5 +1,5 @@
-use pr_param::OutList;
-use pr_words::{InService, OutService};
+use pr_table::{OutList, OutRequest};
+use pr_words::InService;
 
 /// A command that no check refuses, with all that it needs: nothing of its CDB or of its parameter
 /// list is read again.
@@ -16,11 +16,8 @@ pub enum Admitted {
         service: InService,
         allocation: u16,
     },
-    /// The scope and the type have 4 bits each.
     ReserveOut {
-        service: OutService,
-        scope: u8,
-        kind: u8,
+        request: OutRequest,
         list: OutList,
     },
 }

@@ -4,13 +4,14 @@ ghost use Rattle.std.specs.Prelude.{◌≡◌, ◌<◌, ℕ, Some, length};
 ghost use Rattle.pr_words.specs.Services.{out_service_code};
 ghost use Rattle.pr_grammar.specs.Operations.{operation_at, unconditional_in};
 ghost use Rattle.pr_grammar.specs.Cdbs.{operation_code};
-ghost use Rattle.pr_model.specs.Commands.{serves, has_bad_list};
+ghost use Rattle.pr_model.specs.Commands.{has_bad_list};
 ghost use Rattle.pr_model.specs.Commands as model;
 ghost use Rattle.pr_core.specs.Passing.{PassesOperation, PassesForm, PassesCommand, PassesLength};
 
 use crate::admitted::Admitted;
 use pr_cdb::{Command, OperationCode, is_unconditional, read_as};
-use pr_param::{OutList, read_out_list};
+use pr_param::read_out_list;
+use pr_table::{OutList, OutRequest};
 use pr_words::{Code, InService, Kind, OutService};
 
 /// Whether a command is for a logical unit that isn't there, other than 0.
@@ -132,7 +133,12 @@ fn check_reserve_out(
     let Some(service) = OutService::of(action) else {
         return Err(Code::INVALID_FIELD_IN_CDB);
     };
-    if is_unreservable(service, scope, kind) {
+    let request = OutRequest {
+        service,
+        scope,
+        kind,
+    };
+    if is_unreservable(&request) {
         return Err(Code::INVALID_FIELD_IN_CDB);
     }
     check_length(length as usize, sent)?;
@@ -142,24 +148,20 @@ fn check_reserve_out(
     if list_is_bad(service, &list) || list.aptpl {
         return Err(Code::INVALID_FIELD_IN_PARAMETER_LIST);
     }
-    Ok(Admitted::ReserveOut {
-        service,
-        scope,
-        kind,
-        list,
-    })
+    Ok(Admitted::ReserveOut { request, list })
 }
 
 /// Whether a RESERVE has a scope that isn't the logical unit's, or a type that is none of the six.
-fn is_unreservable(service: OutService, scope: u8, kind: u8) -> bool
-    ensures { model.has_bad_service (out_service_code service) scope kind ≡ result }
+fn is_unreservable(request: &OutRequest) -> bool
+    ensures { result ≡ model.has_bad_service (out_service_code request.now.service) request.now.scope request.now.kind }
 {
-    matches!(service, OutService::Reserve) && (scope != 0 || Kind::of(kind).is_none())
+    matches!(request.service, OutService::Reserve)
+        && (request.scope != 0 || Kind::of(request.kind).is_none())
 }
 
 /// Whether a parameter list asks for SPEC_I_PT, or for ALL_TG_PT where a nexus registers.
 fn list_is_bad(service: OutService, list: &OutList) -> bool
-    ensures { has_bad_list (out_service_code service) list.now ≡ result }
+    ensures { result ≡ has_bad_list (out_service_code service) list.now }
 {
     let registers = matches!(
         service,

@@ -1,11 +1,12 @@
 //! Commands: their checks, and what those do that pass.
 
 ghost use Rattle.std.specs.Prelude.{◌≡◌, ◌<◌, ◌≤◌, ℕ, Some, is_some, true, length, take, min};
-ghost use Rattle.pr_words.specs.Services.{in_service_code, out_service_code};
+ghost use Rattle.pr_words.specs.Services.{in_service_code};
 ghost use Rattle.pr_grammar.specs.Operations.{operation_at};
-ghost use Rattle.pr_model.specs.Commands.{sense_data, reserve_in_data, asked};
+ghost use Rattle.pr_model.specs.Commands.{sense_data, reserve_in_data};
 ghost use Rattle.pr_model.specs.Entries.{entry, Command as Commands};
 ghost use Rattle.pr_table.specs.Tables.{standing_of};
+ghost use Rattle.pr_table.specs.Told.{requested};
 ghost use Rattle.pr_core.specs.Seats.{seat_of};
 ghost use Rattle.pr_core.specs.Outs.{out_of, IsProper};
 ghost use Rattle.pr_core.specs.Admits.{Admits, PassesAttention, Serves, Senses, Reserves};
@@ -15,10 +16,10 @@ use crate::answers::CommandOut;
 use crate::checks::{check_command, check_form, check_operation, is_elsewhere};
 use crate::state::State;
 use pr_cdb::{OperationCode, is_unconditional, operation};
-use pr_param::{OutList, write_capabilities, write_full, write_keys, write_reservation};
+use pr_param::{write_capabilities, write_full, write_keys, write_reservation};
 use pr_sense::{write_descriptor, write_fixed};
-use pr_table::{OutAction, Verdict};
-use pr_words::{Code, InService, Nexus, OutService, Sense};
+use pr_table::{OutList, OutRequest, Verdict};
+use pr_words::{Code, InService, Nexus, Sense};
 
 impl State {
     ghost use Rattle.pr_core.specs.States.{Enters, owner_at};
@@ -112,12 +113,7 @@ impl State {
                 service,
                 allocation,
             } => CommandOut::good(self.write_reply(service, allocation, buf)),
-            Admitted::ReserveOut {
-                service,
-                scope,
-                kind,
-                list,
-            } => self.reserve_out(nexus, service, scope, kind, &list),
+            Admitted::ReserveOut { request, list } => self.reserve_out(nexus, &request, &list),
         }
     }
 
@@ -150,25 +146,13 @@ impl State {
     }
 
     /// A PERSISTENT RESERVE OUT with its parameter list.
-    fn reserve_out(
-        &mut self,
-        nexus: Nexus,
-        service: OutService,
-        scope: u8,
-        kind: u8,
-        list: &OutList,
-    ) -> CommandOut
+    fn reserve_out(&mut self, nexus: Nexus, request: &OutRequest, list: &OutList) -> CommandOut
         requires known { is_some (seat_of self.old.seats nexus) ≡ true }
-        ensures reserves { Reserves self.old self.new nexus (asked (out_service_code service) scope kind list.now) result }
+        ensures reserves { Reserves self.old self.new nexus (requested request.now list.now) result }
         ensures owner { owner_at self.new ≡ owner_at self.old }
         ensures proper { IsProper result }
     {
-        let action = OutAction {
-            action: service.code(),
-            scope,
-            kind,
-        };
-        match self.table.act(nexus, &action, list) {
+        match self.table.serve(nexus, request, list) {
             Verdict::Good(change) => {
                 self.seats.tell(nexus, &self.table, &change);
                 CommandOut::good(0)
