@@ -1,3 +1,4 @@
 mod Ahead
 pub mod Pieces
+mod Placing
 pub mod Sent

@@ -16,6 +16,12 @@ impl Faults {
         Faults { count: 0 }
     }
 
+    pub(crate) fn count(&self) -> u64
+        ensures { result ≡ self.now.count }
+    {
+        self.count
+    }
+
     /// Counts one fault more, and hands out the answer that it excuses.
     pub(crate) fn raise(&mut self) -> Failed
         ensures later { self.old.count ≤ self.new.count }

@@ -5,6 +5,7 @@
 //! memory, which tell what they hold, and thin adapters over real streams, which don't.
 #![tactic(auto)]
 
+mod blocks;
 mod calls;
 mod faults;
 mod memory;
@@ -14,7 +15,7 @@ mod standard;
 mod sure;
 mod writing;
 
-pub use memory::{MemSink, MemSource};
+pub use memory::{MemMedium, MemSink, MemSource};
 pub use outside::{Disk, Failed, Medium, Sink, Source};
 pub use reading::read_up_to;
 pub use standard::{StdinSource, StdoutSink};

@@ -1,11 +1,14 @@
-ghost use Rattle.std.specs.Prelude.{◌≡◌, ◌≤◌, ◌<◌, ◌+◌, ◌-◌, ◌^◌, ◌↔◌, ◌⊎◌, Some, [], min, length, drop, IfOk, IsErr};
+ghost use Rattle.std.specs.Prelude.{◌≡◌, ◌≤◌, ◌<◌, ◌+◌, ◌-◌, ◌/◌, ◌^◌, ◌↔◌, ◌⊎◌, Some, [], min, length, drop, IfOk, IsErr};
+ghost use Rattle.pr_io.specs.Blocks.{AreBlocks};
 ghost use Rattle.pr_io.specs.Calls.{IsToFail, next_call};
 ghost use Rattle.pr_io.specs.Causes.{HasCause, Rose};
+ghost use Rattle.pr_io.specs.Contents.{ReadsBlock, WritesBlock, block_at};
 ghost use Rattle.pr_io.specs.Streams.{HasEnded, MovesInto, Reaches};
 
+use crate::blocks::Blocks;
 use crate::calls::Calls;
 use crate::faults::Faults;
-use crate::{Failed, Sink, Source};
+use crate::{Failed, Medium, Sink, Source};
 use std::alloc::Global;
 
 /// A source over bytes in memory, some of whose calls fail.
@@ -170,5 +173,91 @@ impl Sink for MemSink {
                 Err(self.faults.raise())
             }
         }
+    }
+}
+
+/// A medium in memory, some of whose calls fail. A call that fails leaves every block as it was.
+#[derive(Drop)]
+pub struct MemMedium {
+    blocks: Blocks,
+    calls: Calls,
+    faults: Faults,
+}
+
+impl MemMedium {
+    /// A medium of these blocks, one after another.
+    ///
+    /// `failing` holds the numbers of the calls that are to fail, reads and writes counted
+    /// together. The first call is number 1.
+    pub fn new(bytes: Vec<u8>, failing: Vec<u64>) -> MemMedium
+        requires { AreBlocks (length bytes.items) }
+        ensures count { ⟦<MemMedium as Medium>⟧.count result ≡ length bytes.items / 512 }
+        ensures contents { ⟦<MemMedium as Medium>⟧.contents result ≡ Some (block_at bytes.items) }
+        ensures faults { ⟦<MemMedium as Medium>⟧.faults result ≡ 0 }
+        ensures made { result.calls.made ≡ 0 }
+        ensures failing { result.calls.failing ≡ failing }
+    {
+        MemMedium {
+            blocks: Blocks::new(bytes),
+            calls: Calls::new(failing),
+            faults: Faults::new(),
+        }
+    }
+
+    /// All blocks, one after another.
+    pub fn bytes(&self) -> &[u8]
+        ensures held { ⟦<MemMedium as Medium>⟧.contents self.now ≡ Some (block_at result.now) }
+        ensures size { length result.now / 512 ≡ ⟦<MemMedium as Medium>⟧.count self.now }
+    {
+        self.blocks.bytes()
+    }
+}
+
+impl Medium for MemMedium {
+    ghost count = { λ s. length s.blocks.bytes.items / 512 };
+
+    ghost contents = { λ s. Some (block_at s.blocks.bytes.items) };
+
+    ghost faults = { λ s. s.faults.count };
+
+    fn blocks(&self) -> u64 {
+        self.blocks.count()
+    }
+
+    fn read_block(&mut self, lba: u64, block: &mut [u8; 512]) -> Result<(), Failed>
+        requires { lba < ⟦<MemMedium as Medium>⟧.count self.old }
+        ensures given { ReadsBlock (⟦<MemMedium as Medium>⟧.contents self.old) lba result block.new }
+        ensures contents { ⟦<MemMedium as Medium>⟧.contents self.new ≡ ⟦<MemMedium as Medium>⟧.contents self.old }
+        ensures count { ⟦<MemMedium as Medium>⟧.count self.new ≡ ⟦<MemMedium as Medium>⟧.count self.old }
+        ensures cause { HasCause (⟦<MemMedium as Medium>⟧.faults self.old) (⟦<MemMedium as Medium>⟧.faults self.new) result }
+        ensures listed { IsErr result ↔ IsToFail self.old.calls.failing.items self.old.calls.made }
+        ensures made { self.new.calls.made ≡ next_call self.old.calls.made }
+        ensures failing { self.new.calls.failing ≡ self.old.calls.failing }
+    {
+        if self.calls.next_fails() {
+            return Err(self.faults.raise());
+        }
+        self.blocks.read(lba, block);
+        Ok(())
+    }
+
+    fn write_block(&mut self, lba: u64, block: &[u8; 512]) -> Result<(), Failed>
+        requires { lba < ⟦<MemMedium as Medium>⟧.count self.old }
+        ensures contents { WritesBlock (⟦<MemMedium as Medium>⟧.contents self.old) (⟦<MemMedium as Medium>⟧.contents self.new) lba result block.now }
+        ensures count { ⟦<MemMedium as Medium>⟧.count self.new ≡ ⟦<MemMedium as Medium>⟧.count self.old }
+        ensures cause { HasCause (⟦<MemMedium as Medium>⟧.faults self.old) (⟦<MemMedium as Medium>⟧.faults self.new) result }
+        ensures listed { IsErr result ↔ IsToFail self.old.calls.failing.items self.old.calls.made }
+        ensures made { self.new.calls.made ≡ next_call self.old.calls.made }
+        ensures failing { self.new.calls.failing ≡ self.old.calls.failing }
+    {
+        if self.calls.next_fails() {
+            return Err(self.faults.raise());
+        }
+        self.blocks.write(lba, block);
+        Ok(())
+    }
+
+    fn faults(&self) -> u64 {
+        self.faults.count()
     }
 }

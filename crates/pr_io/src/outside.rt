@@ -1,8 +1,11 @@
 ghost use Rattle.std.specs.Prelude.{◌≡◌, ◌≤◌, ◌<◌, ◌^◌, ℕ, List, Option, length, IfOk};
 ghost use Rattle.pr_io.specs.Causes.{HasCause};
+ghost use Rattle.pr_io.specs.Contents.{ReadsBlock, WritesBlock};
 ghost use Rattle.pr_io.specs.Streams.{HasEnded, MovesInto, Reaches};
 
 /// The object has failed. Its count of faults shows it; nothing more is known of the cause.
+///
+/// Each call that fails is counted once, and no other call is.
 #[derive(Clone, Copy, Debug, PartialEq, Eq)]
 pub struct Failed;
 
@@ -54,6 +57,9 @@ pub trait Medium {
     /// The number of blocks.
     ghost count: { Self → ℕ };
 
+    /// The bytes of each block, where they are told.
+    ghost contents: { Self → Option (ℕ → List ℕ) };
+
     /// How often the medium has failed.
     ghost faults: { Self → ℕ };
 
@@ -62,6 +68,29 @@ pub trait Medium {
         ensures count { result ≡ count self.now }
         ensures some { 1 ≤ result }
         ensures most { result ≤ 2 ^ 40 };
+
+    /// Reads the block with this address. After a failure the buffer may hold anything.
+    ///
+    /// # Errors
+    ///
+    /// Where the medium has failed.
+    fn read_block(&mut self, lba: u64, block: &mut [u8; 512]) -> Result<(), Failed>
+        requires { lba < count self.old }
+        ensures given { ReadsBlock (contents self.old) lba result block.new }
+        ensures contents { contents self.new ≡ contents self.old }
+        ensures count { count self.new ≡ count self.old }
+        ensures cause { HasCause (faults self.old) (faults self.new) result };
+
+    /// Writes the block with this address.
+    ///
+    /// # Errors
+    ///
+    /// Where the medium has failed. The block may then hold anything.
+    fn write_block(&mut self, lba: u64, block: &[u8; 512]) -> Result<(), Failed>
+        requires { lba < count self.old }
+        ensures contents { WritesBlock (contents self.old) (contents self.new) lba result block.now }
+        ensures count { count self.new ≡ count self.old }
+        ensures cause { HasCause (faults self.old) (faults self.new) result };
 
     /// How often the medium has failed so far. The count stands still at 2^64 - 1.
     fn faults(&self) -> u64
@@ -101,10 +130,20 @@ impl<K: Sink> Sink for &mut K {
 impl<M: Medium> Medium for &mut M {
     ghost count = { λ m. M.count m.now };
 
+    ghost contents = { λ m. M.contents m.now };
+
     ghost faults = { λ m. M.faults m.now };
 
     fn blocks(&self) -> u64 {
         (**self).blocks()
+    }
+
+    fn read_block(&mut self, lba: u64, block: &mut [u8; 512]) -> Result<(), Failed> {
+        (**self).read_block(lba, block)
+    }
+
+    fn write_block(&mut self, lba: u64, block: &[u8; 512]) -> Result<(), Failed> {
+        (**self).write_block(lba, block)
     }
 
     fn faults(&self) -> u64 {

@@ -1,6 +1,8 @@
 ghost use Rattle.std.specs.Prelude.{◌≡◌, ◌≤◌, ◌<◌, ◌^◌, ◌*◌, ◌/◌, ◌+◌, Some, None, [], length, drop};
 ghost use Rattle.pr_io.specs.Blocks.{AreBlocks, disk_size};
+ghost use Rattle.pr_io.specs.Contents.{block_at};
 
+use crate::blocks::Blocks;
 use crate::{Disk, Failed, Medium, Sink, Source};
 
 /// A source over bytes in memory, which never fails.
@@ -61,8 +63,7 @@ impl Sink for SureSink {
 /// A medium in memory, which never fails.
 #[derive(Drop)]
 pub struct SureMedium {
-    bytes: Vec<u8>,
-    ghost blocks: { AreBlocks (length bytes.items) },
+    blocks: Blocks,
 }
 
 impl SureMedium {
@@ -70,19 +71,34 @@ impl SureMedium {
     pub fn new(bytes: Vec<u8>) -> SureMedium
         requires { AreBlocks (length bytes.items) }
         ensures count { ⟦<SureMedium as Medium>⟧.count result ≡ length bytes.items / 512 }
+        ensures contents { ⟦<SureMedium as Medium>⟧.contents result ≡ Some (block_at bytes.items) }
         ensures faults { ⟦<SureMedium as Medium>⟧.faults result ≡ 0 }
     {
-        SureMedium { bytes }
+        SureMedium {
+            blocks: Blocks::new(bytes),
+        }
     }
 }
 
 impl Medium for SureMedium {
-    ghost count = { λ s. length s.bytes.items / 512 };
+    ghost count = { λ s. length s.blocks.bytes.items / 512 };
+
+    ghost contents = { λ s. Some (block_at s.blocks.bytes.items) };
 
     ghost faults = { λ _. 0 };
 
     fn blocks(&self) -> u64 {
-        (self.bytes.len() / 512) as u64
+        self.blocks.count()
+    }
+
+    fn read_block(&mut self, lba: u64, block: &mut [u8; 512]) -> Result<(), Failed> {
+        self.blocks.read(lba, block);
+        Ok(())
+    }
+
+    fn write_block(&mut self, lba: u64, block: &[u8; 512]) -> Result<(), Failed> {
+        self.blocks.write(lba, block);
+        Ok(())
     }
 
     fn faults(&self) -> u64 {

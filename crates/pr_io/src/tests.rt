@@ -1,3 +1,5 @@
+ghost use Rattle.std.specs.Prelude.{◌≡◌, ◌<◌};
+
 use super::*;
 use std::io;
 use std::io::{ErrorKind, Read, Write};
@@ -144,8 +146,42 @@ fn the_forms_that_never_fail(rt: HostRuntime) -> Result<(), Fail> {
     assert_eq!(rt; put_all(&mut SureSink::new(), b"abc"), Ok(()));
     let mut medium = SureMedium::new(vec![in alloc; 0u8; 1024]?);
     assert_eq!(rt; (&mut medium).blocks(), 2);
+    assert_eq!(rt; write_and_read(&mut medium, 1, 0xA1), Ok(0xA1));
     assert_eq!(rt; Medium::faults(&medium), 0);
     let disk = SureDisk::new(vec![in alloc; 0u8; 262_144]?);
     assert_eq!(rt; disk.faults(), 0);
+    Ok(())
+}
+
+/// Writes a block of this byte, and reads it back.
+fn write_and_read<M: Medium>(medium: &mut M, lba: u64, byte: u8) -> Result<u8, Failed>
+    requires { lba < M.count medium.old }
+    ensures count { M.count medium.new ≡ M.count medium.old }
+{
+    let mut block = [byte; 512];
+    medium.write_block(lba, &block)?;
+    block = [0; 512];
+    medium.read_block(lba, &mut block)?;
+    Ok(block[511])
+}
+
+#[test]
+fn a_medium_fails_at_its_third_write_and_at_a_read(rt: HostRuntime) -> Result<(), Fail> {
+    let alloc = rt.alloc();
+    let failing = [5, 7].to_vec(alloc)?;
+    let mut medium = MemMedium::new(vec![in alloc; 0u8; 2048]?, failing);
+    let mut outer = &mut medium;
+    assert_eq!(rt; write_and_read(&mut outer, 0, 0xA0), Ok(0xA0));
+    assert_eq!(rt; write_and_read(&mut outer, 3, 0xA3), Ok(0xA3));
+    assert_eq!(rt; write_and_read(&mut outer, 1, 0xA1), Err(Failed));
+    assert_eq!(rt; write_and_read(&mut outer, 2, 0xA2), Err(Failed));
+    assert_eq!(rt; Medium::faults(&medium), 2);
+    let wanted = [0xA0, 0xA0, 0x00, 0x00, 0xA2, 0xA2, 0xA3, 0xA3];
+    for (place, byte) in [0, 511, 512, 1023, 1024, 1535, 1536, 2047]
+        .into_iter()
+        .zip(wanted)
+    {
+        assert_eq!(rt; medium.bytes().get(place).copied(), Some(byte));
+    }
     Ok(())
 }

@@ -1,4 +1,4 @@
-use Rattle.std.proofs.Common.{◌≡◌, ◌≤◌, ◌<◌, ◌-◌, ℕ, List, [], take, drop, length, subst, arith}
+use Rattle.std.proofs.Common.{◌≡◌, ◌≤◌, ◌<◌, ◌-◌, ℕ, List, [], take, drop, length, subst, arith, refl, ◌∙◌}
 use Rattle.std.proofs.lemmas.List.{length-drop}
 use Rattle.pr_model.specs.Lanes.{arrived}
 use Rattle.pr_io.proofs.Sent.{always_err}
@@ -19,7 +19,7 @@ loop-at-init g c =
       agrees = agrees_still c.args.who c.args.core.now l (lane_of c.feed-at.new.self) (take c.feed-at.result bytes) c.feed-at.ensures.lane c.requires;
       full = λ less. fed_full l (lane_of c.feed-at.new.self) bytes c.feed-at.result c.feed-at.ensures.count c.feed-at.ensures.lane c.feed-at.ensures.bound less;
       bound = c.feed-at.ensures.bound;
-      later = omega arith;
+      calm = refl;
     }
 
 pub returns-in_err-step-clause-some : goal.returns-in_err-step-clause-some
@@ -62,7 +62,7 @@ loop-at-preserved g c =
       agrees = agrees_still c.args.who c.step.new.core mid next (take n rest) goes c.step.ensures.agrees;
       full = λ less. fed_full mid next rest n count goes c.feed-at-in-loop-at.ensures.bound (omega (arith, less, size));
       bound = c.feed-at-in-loop-at.ensures.bound;
-      later = omega (arith, c.step.ensures.cause.later, c.loop-at.invariant.later);
+      calm = c.in_ok-step.ensures.cause.calm ∙ c.loop-at.invariant.calm;
     }
 
 pub returns-clause-all : goal.returns-clause-all

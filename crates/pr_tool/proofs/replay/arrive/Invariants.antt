@@ -17,7 +17,7 @@ invariant-loop-at g l =
       others : KeepsOthers l.who l.initial.core l.core;
       full : l.at < length l.bytes → (length (lane_of l.lane).bytes ≡ HELD) × ((lane_of l.lane).phase ≡ Dead → ⊥);
       bound : length (lane_of l.lane).bytes ≤ HELD;
-      later : g.K.Sink.faults l.initial.sink ≤ g.K.Sink.faults l.sink;
+      calm : g.K.Sink.faults l.sink ≡ g.K.Sink.faults l.initial.sink;
     }
 
 abbrev pub decreases-loop-at : goal.decreases-loop-at
