@@ -6,3 +6,6 @@ mod task;
 
 pub use step_out::StepOut;
 pub use task::Task;
+
+#[cfg(test)]
+mod tests;

@@ -1,4 +1,4 @@
-ghost use Rattle.std.specs.Prelude.{◌≡◌, ◌≤◌, ◌+◌, ◌-◌, IsTrue};
+ghost use Rattle.std.specs.Prelude.{◌≡◌, ◌≤◌, ◌+◌, ◌-◌, IfOk, IsTrue};
 ghost use Rattle.pr_io.specs.Causes.{HasCause};
 ghost use Rattle.pr_io.specs.Contents.{ReadsBlock, WritesBlock};
 ghost use Rattle.pr_tasks.specs.Steps.{IsUnderWay, Steps, aborted, answered, begun, next_block};
@@ -53,7 +53,8 @@ impl Task {
     /// INVALID FIELD IN CDB where there are more than 1,024, and otherwise LOGICAL BLOCK ADDRESS
     /// OUT OF RANGE where not all of them lie within the medium.
     pub fn begin(way: Way, lba: u64, count: u32, blocks: u64) -> Result<Task, Code>
-        ensures { result ≡ begun way lba count blocks }
+        ensures begun { result ≡ begun way lba count blocks }
+        ensures within { IfOk result (λ t. t.lba + t.count ≤ blocks) }
     {
         if count as usize > TRANSFER {
             return Err(Code::INVALID_FIELD_IN_CDB);
@@ -88,6 +89,7 @@ impl Task {
     pub fn step<M: Medium>(&mut self, medium: &mut M, block: &mut [u8; 512]) -> StepOut
         requires { self.old.lba + self.old.count ≤ M.count medium.old }
         ensures steps { Steps self.old result self.new }
+        ensures blocks { (self.new.lba ≡ self.old.lba) × (self.new.count ≡ self.old.count) }
         ensures writes { IsUnderWay self.old → self.old.way ≡ Way.Write → WritesBlock (M.contents medium.old) (M.contents medium.new) (next_block self.old) (answered result) block.old × (block.new ≡ block.old) }
         ensures reads { IsUnderWay self.old → self.old.way ≡ Way.Read → ReadsBlock (M.contents medium.old) (next_block self.old) (answered result) block.new × (M.contents medium.new ≡ M.contents medium.old) }
         ensures marked { IsTrue self.old.aborted → (medium.new ≡ medium.old) × (block.new ≡ block.old) }
