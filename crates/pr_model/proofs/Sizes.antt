@@ -1,5 +1,5 @@
 -- No entry changes how many blocks the medium has.
-use Rattle.std.proofs.Common.{◌≡◌, ℕ, ◌==◌, Bool, true, false, cond, List, [], ◌∷◌, ◌++◌, Option, Some, None, refl, ap, ◌∙◌, take}
+use Rattle.std.proofs.Common.{◌≡◌, ℕ, ◌==◌, Bool, true, false, cond, List, [], ◌∷◌, Option, Some, None, refl, ap, take}
 use Rattle.pr_words.specs.declared.nexus.Nexus.{Nexus}
 use Rattle.pr_words.specs.declared.code.Code.{Code}
 use Rattle.pr_grammar.specs.declared.cdb.Command.{Command}
@@ -11,7 +11,7 @@ use Rattle.pr_model.specs.Worlds.{Blocks, World, set_at}
 use Rattle.pr_model.specs.Entries as entries
 use Rattle.pr_model.specs.Entries.{Act, Out, Entry}
 use Rattle.pr_model.specs.Commands.{Answer, answer, good, checking, sense_data, unsupported_unit, refused_where, attention_check, command_checks, checks, first_or, by_verdict, hand_out, served, answered}
-use Rattle.pr_model.specs.Histories.{login_code, logged_in, moved, moved_by}
+use Rattle.pr_model.specs.Histories.{login_code, logged_in, moved_by}
 use Rattle.pr_model.specs.Laws.{KeepsSize}
 
 -- a check's answer leaves the medium as it is

@@ -247,7 +247,7 @@ impl Table {
                 list.action_key,
                 list.aptpl,
             ),
-            OutService::Reserve => self.reserve(nexus, request.kind),
+            OutService::Reserve => self.reserve(nexus, note.place, request.kind),
             OutService::Release => self.release(nexus, note.place, request.scope, request.kind),
             OutService::Clear => self.clear(),
             OutService::Preempt | OutService::PreemptAndAbort => self.preempt(
@@ -301,28 +301,23 @@ impl Table {
         Verdict::Good(Change::telling(stay_code))
     }
 
-    fn reserve(&mut self, nexus: Nexus, kind: u8) -> Verdict
-        requires { removed_of self.old ≡ [] }
+    fn reserve(&mut self, nexus: Nexus, place: Result<usize, usize>, kind: u8) -> Verdict
+        requires removed { removed_of self.old ≡ [] }
+        requires place { IsPlace (standing_of self.old).pairs nexus place }
         ensures does { Does (reserve (standing_of self.old) nexus kind) result (standing_of self.new) (removed_of self.new) }
         ensures limit { limit_of self.new ≡ limit_of self.old }
     {
-        let stays = match self.reservation {
-            Reservation::Free => {
-                let Some(asked) = Kind::of(kind) else {
-                    return Verdict::Bad(Code::INVALID_FIELD_IN_CDB);
-                };
-                self.reservation = held(asked, nexus);
-                return Verdict::Good(Change::telling(None));
+        if let Some(own) = kind_of(&self.reservation) {
+            if !holds(&self.reservation, nexus, place.is_ok()) || own.code() != kind {
+                return Verdict::Conflict;
             }
-            Reservation::OfOne { kind: own, holder } => is_same(&holder, &nexus)
-                & (own.code() == kind),
-            Reservation::OfAll { kind: own } => own.code() == kind,
-        };
-        if stays {
-            Verdict::Good(Change::telling(None))
-        } else {
-            Verdict::Conflict
+            return Verdict::Good(Change::telling(None));
         }
+        let Some(asked) = Kind::of(kind) else {
+            return Verdict::Bad(Code::INVALID_FIELD_IN_CDB);
+        };
+        self.reservation = held(asked, nexus);
+        Verdict::Good(Change::telling(None))
     }
 
     fn release(&mut self, nexus: Nexus, place: Result<usize, usize>, scope: u8, kind: u8) -> Verdict
