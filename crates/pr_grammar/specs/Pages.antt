@@ -22,7 +22,7 @@ response_data_format = 0x02
 abbrev pub multiple_ports : ℕ
 multiple_ports = 0x10
 
--- T10 VENDOR IDENTIFICATION, PRODUCT IDENTIFICATION and PRODUCT REVISION LEVEL
+-- vendor, product and product revision level
 abbrev pub vendor : List ℕ
 vendor = codes "PRTOOL  "
 
@@ -55,12 +55,12 @@ supported_pages = 0x00 ∷ 0x80 ∷ 0x83 ∷ []
 abbrev pub serial_number : List ℕ
 serial_number = codes "00000001"
 
--- DESIGNATOR, of the type T10 vendor ID based
+-- DESIGNATOR: the vendor, and behind it the serial number
 abbrev pub designator : List ℕ
 designator = vendor ++ serial_number
 
--- a designation descriptor: CODE SET 2h, ASCII; ASSOCIATION 0h, the logical unit, and DESIGNATOR TYPE 1h;
--- DESIGNATOR LENGTH
+-- a designation descriptor: CODE SET 2h, ASCII; ASSOCIATION 0h, the logical unit, and DESIGNATOR TYPE 1h,
+-- which begins with the vendor; DESIGNATOR LENGTH
 abbrev pub designation : List ℕ
 designation = (0x02 ∷ 0x01 ∷ 0 ∷ length designator ∷ []) ++ designator
 
