@@ -1,6 +1,6 @@
 -- What the target tells of itself: INQUIRY and REPORT LUNS data (SPC-4), and READ CAPACITY data (SBC-3).
 -- The fields are the standards', and what they say is this project's own.
-use Rattle.std.specs.Prelude.{ℕ, ◌-◌, ◌==◌, ◌||◌, Bool, List, [], ◌∷◌, ◌++◌, length, replicate, codes, min, Option, Some, None, if◌then◌else◌}
+use Rattle.std.specs.Prelude.{ℕ, ◌-◌, ◌==◌, Bool, List, [], ◌∷◌, ◌++◌, length, replicate, codes, min, Option, Some, None, if◌then◌else◌}
 use Rattle.std.specs.Int.{w16, w32, w64, to_be_bytes}
 
 -- INQUIRY (SPC-4, standard INQUIRY data)

@@ -4,21 +4,16 @@
 //! function is a law of the definitions, and says it in its contract.
 #![tactic(auto)]
 
-ghost use Rattle.std.specs.Prelude.{◌≡◌, ℕ, ◌≤◌, ◌⊎◌, not, true, false, [], Some};
+ghost use Rattle.std.specs.Prelude.{◌≡◌, ℕ, ◌≤◌, ◌⊎◌, not, true, [], Some};
 ghost use Rattle.pr_words.specs.declared.nexus.Nexus.{Nexus};
 ghost use Rattle.pr_words.specs.declared.code.Code.{Code};
-ghost use Rattle.pr_grammar.specs.Standings.{Standing, is_registered, is_holder};
+ghost use Rattle.pr_grammar.specs.Standings.{Standing, is_registered};
 ghost use Rattle.pr_model.specs.Registrants.{IsAscending, IsWellFormed};
 ghost use Rattle.pr_model.specs.Acts.{Acted, Good, Bad, ReserveOut, acted, preempt};
 ghost use Rattle.pr_model.specs.Cases.{Case, Applies, Preempts};
 ghost use Rattle.pr_model.specs.Effects.{Rule, IsRule, Acts};
 ghost use Rattle.pr_model.specs.Attentions.{is_attention};
-ghost use Rattle.pr_words.specs.declared.reservation.Reservation.TheVariants.{OfAll};
-ghost use Rattle.pr_words.specs.declared.reservation.Kind.{Kind};
-ghost use Rattle.pr_grammar.specs.declared.cdb.Class.{Class};
-ghost use Rattle.pr_grammar.specs.declared.cdb.Class.TheVariants as class;
-ghost use Rattle.pr_model.specs.Conflicts.{is_forbidden};
-ghost use Rattle.pr_model.specs.Laws.{BytesWait, ChangesNothing, HasOneOutcome};
+ghost use Rattle.pr_model.specs.Laws.{BytesWait, ChangesNothing, HasOneOutcome, HoldersPass, RegistrantsPass, FreePass};
 ghost use Rattle.pr_model.specs.Keeping.{Kept, kept, same_kept, keeps_by, looks_same, same_reservation};
 
 /// Of each PREEMPT exactly one case applies, and it has exactly one answer, which `preempt` is.
@@ -93,7 +88,7 @@ pub fn bytes_wait()
 /// No command of a reservation holder conflicts with the reservation, which is each registered nexus
 /// where all registrants hold it; and no command conflicts that neither reads nor writes.
 pub fn holders_never_conflict()
-    ensures holder { (s : Standing) (n : Nexus) (c : Class) → is_holder s n ≡ true → is_forbidden s n c ≡ false }
-    ensures registrants { (s : Standing) (kind : Kind) (n : Nexus) (c : Class) → s.reservation ≡ OfAll kind → is_registered s.pairs n ≡ true → is_forbidden s n c ≡ false }
-    ensures free { (s : Standing) (n : Nexus) → is_forbidden s n class.Free ≡ false }
+    ensures holders { HoldersPass }
+    ensures registrants { RegistrantsPass }
+    ensures free { FreePass }
 {}
