@@ -9,7 +9,7 @@ use Rattle.pr_grammar.specs.Cdbs.{operation_code, command_of}
 use Rattle.pr_grammar.specs.OutLists.{list_of}
 use Rattle.pr_model.specs.Worlds.{World}
 use Rattle.pr_model.specs.Entries.{entry, Out, Command as Commands}
-use Rattle.pr_model.specs.Commands.{Answer, answer, good, checking, is_elsewhere, checks, served, sense_data, asked, answered, answered_by}
+use Rattle.pr_model.specs.Commands.{Answer, answer, good, checking, is_elsewhere, served, sense_data, asked, answered, answered_by}
 use Rattle.pr_core.specs.declared.answers.CommandOut.{CommandOut}
 use Rattle.pr_core.specs.declared.answers.CommandOut.TheVariants as outs
 use Rattle.pr_core.specs.declared.state.State.{State}
