@@ -3,3 +3,4 @@ pub mod Blocks
 pub mod Calls
 pub mod Causes
 pub mod Streams
+pub mod Told

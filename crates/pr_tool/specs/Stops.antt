@@ -3,7 +3,7 @@ use Rattle.std.specs.Prelude.{◌≡◌, ℕ, ◌≤◌, List, [], length, Optio
 use Rattle.pr_io.specs.Streams.{Took}
 use Rattle.pr_grammar.specs.Schedules.{Record, IsRecord, spelled_record}
 use Rattle.pr_model.specs.Lanes.{Lane}
-use Rattle.pr_model.specs.Runs.{ActsOn, RunsRecord, BeginsRecord}
+use Rattle.pr_model.specs.Runs.{ActsOn, RunsRecord, CutsRecord}
 use Rattle.pr_core.specs.declared.target.Core.{Core}
 use Rattle.pr_tool.specs.Reading.{Stops}
 use Rattle.pr_tool.specs.Exits.{Ran}
@@ -31,19 +31,18 @@ pub record Did {M D : Type 0} (lanes left : ℕ) (rest_old rest written_old writ
   pub took : Took rest_old rest (spelled_record first)
   pub valid : IsRecord lanes first
   pub within : length (spelled_record first) ≤ left
-  pub ran : Ran (ActsOn RunsRecord first) written_old written old before new now []
+  pub ran : Ran (ActsOn RunsRecord first) written_old written old before new now
   pub counted : size ≡ length (spelled_record first)
   pub some : 4 ≤ size
 
--- a record that was read, and began to act until a reply couldn't be written
+-- a record that was read, and acted until a reply couldn't be written
 pub record Began {M D : Type 0} (lanes left : ℕ) (rest_old rest written_old written : Option (List ℕ)) (old : Core M D) (before : List Lane) (new : Core M D) : Type 0 where
   pub first : Record
   pub took : Took rest_old rest (spelled_record first)
   pub valid : IsRecord lanes first
   pub within : length (spelled_record first) ≤ left
   pub last : List Lane
-  pub lost : List ℕ
-  pub ran : Ran (ActsOn BeginsRecord first) written_old written old before new last lost
+  pub ran : Ran (ActsOn CutsRecord first) written_old written old before new last
 
 abbrev pub StopsBy : {M D : Type 0} → ℕ → ℕ → Stop → Option (List ℕ) → Option (List ℕ) → Option (List ℕ) → Option (List ℕ) → Core M D → List Lane → Core M D → Type 0
 StopsBy lanes left (stop.Read end) ra rb wa wb old before new = Stops lanes left end ra rb × (wb ≡ wa)

@@ -5,7 +5,7 @@ ghost use Rattle.pr_model.specs.Limits.{HELD};
 ghost use Rattle.pr_model.specs.Keeping.{Nothing};
 ghost use Rattle.pr_model.specs.Worlds.{powered};
 ghost use Rattle.pr_model.specs.Lanes.{Lane, Dead, fresh};
-ghost use Rattle.pr_model.specs.Runs.{TakesTurn, RunsRecord, BeginsRecord, ActsOn};
+ghost use Rattle.pr_model.specs.Runs.{TakesTurn, CutsTurn, RunsRecord, CutsRecord, ActsOn};
 ghost use Rattle.pr_core.specs.View.{StandsFor, blocks_of, KeepsOthers};
 ghost use Rattle.pr_tool.specs.Reading.{record_of, IsHeld, Reads};
 ghost use Rattle.pr_tool.specs.Sessions.{lane_of, lanes_of};
@@ -36,8 +36,8 @@ fn step<K: Sink, M: Medium, D: Disk>(
     who: u8,
 ) -> Result<(), Failed>
     requires { Agrees (lane_of lane.old).phase who core.old }
-    ensures all { OnOk result (Ran (TakesTurn who) (K.written sink.old) (K.written sink.new) core.old (lane_of lane.old) core.new (lane_of lane.new) []) }
-    ensures some { OnErr result ((lost : List ℕ) × Ran (TakesTurn who) (K.written sink.old) (K.written sink.new) core.old (lane_of lane.old) core.new (lane_of lane.new) lost) }
+    ensures all { OnOk result (Ran (TakesTurn who) (K.written sink.old) (K.written sink.new) core.old (lane_of lane.old) core.new (lane_of lane.new)) }
+    ensures some { OnErr result (Ran (CutsTurn who) (K.written sink.old) (K.written sink.new) core.old (lane_of lane.old) core.new (lane_of lane.new)) }
     ensures agrees { Agrees (lane_of lane.new).phase who core.new }
     ensures others { KeepsOthers who core.old core.new }
     ensures room { length (lane_of lane.old).bytes ≡ HELD → ((lane_of lane.old).phase ≡ Dead → ⊥) → (more : List ℕ) → 0 < length more → 0 < fed (lane_of lane.new) more }
@@ -56,8 +56,8 @@ fn arrive<K: Sink, M: Medium, D: Disk>(
     bytes: &[u8],
 ) -> Result<(), Failed>
     requires { Agrees (lane_of lane.old).phase who core.old }
-    ensures all { OnOk result (Ran (RunsRecord (schedules.Arrival who bytes.now)) (K.written sink.old) (K.written sink.new) core.old (lane_of lane.old) core.new (lane_of lane.new) []) }
-    ensures some { OnErr result ((m : Lane) × (lost : List ℕ) × Ran (BeginsRecord (schedules.Arrival who bytes.now)) (K.written sink.old) (K.written sink.new) core.old (lane_of lane.old) core.new m lost) }
+    ensures all { OnOk result (Ran (RunsRecord (schedules.Arrival who bytes.now)) (K.written sink.old) (K.written sink.new) core.old (lane_of lane.old) core.new (lane_of lane.new)) }
+    ensures some { OnErr result ((m : Lane) × Ran (CutsRecord (schedules.Arrival who bytes.now)) (K.written sink.old) (K.written sink.new) core.old (lane_of lane.old) core.new m) }
     ensures agrees { Agrees (lane_of lane.new).phase who core.new }
     ensures others { KeepsOthers who core.old core.new }
     ensures cause { HasCause (K.faults sink.old) (K.faults sink.new) result }
@@ -81,8 +81,8 @@ fn act<K: Sink, M: Medium, D: Disk>(
     requires agrees { Agrees (lane_of lane.old).phase (schedules.lane_of (record_of found body.now)) core.old }
     requires held { IsHeld found }
     requires room { 65535 ≤ length body.now }
-    ensures all { OnOk result (Ran (RunsRecord (record_of found body.now)) (K.written sink.old) (K.written sink.new) core.old (lane_of lane.old) core.new (lane_of lane.new) []) }
-    ensures some { OnErr result ((m : Lane) × (lost : List ℕ) × Ran (BeginsRecord (record_of found body.now)) (K.written sink.old) (K.written sink.new) core.old (lane_of lane.old) core.new m lost) }
+    ensures all { OnOk result (Ran (RunsRecord (record_of found body.now)) (K.written sink.old) (K.written sink.new) core.old (lane_of lane.old) core.new (lane_of lane.new)) }
+    ensures some { OnErr result ((m : Lane) × Ran (CutsRecord (record_of found body.now)) (K.written sink.old) (K.written sink.new) core.old (lane_of lane.old) core.new m) }
     ensures agrees { Agrees (lane_of lane.new).phase (schedules.lane_of (record_of found body.now)) core.new }
     ensures others { KeepsOthers (schedules.lane_of (record_of found body.now)) core.old core.new }
     ensures cause { HasCause (K.faults sink.old) (K.faults sink.new) result }
@@ -109,8 +109,8 @@ fn act_on<K: Sink, M: Medium, D: Disk>(
     requires held { IsHeld found }
     requires room { 65535 ≤ length body.now }
     requires valid { schedules.IsRecord (length lanes.old) (record_of found body.now) }
-    ensures all { OnOk result (Ran (ActsOn RunsRecord (record_of found body.now)) (K.written sink.old) (K.written sink.new) core.old (lanes_of lanes.old) core.new (lanes_of lanes.new) []) }
-    ensures some { OnErr result ((last : List Lane) × (lost : List ℕ) × Ran (ActsOn BeginsRecord (record_of found body.now)) (K.written sink.old) (K.written sink.new) core.old (lanes_of lanes.old) core.new last lost) }
+    ensures all { OnOk result (Ran (ActsOn RunsRecord (record_of found body.now)) (K.written sink.old) (K.written sink.new) core.old (lanes_of lanes.old) core.new (lanes_of lanes.new)) }
+    ensures some { OnErr result ((last : List Lane) × Ran (ActsOn CutsRecord (record_of found body.now)) (K.written sink.old) (K.written sink.new) core.old (lanes_of lanes.old) core.new last) }
     ensures agree { AllAgree (lanes_of lanes.new) core.new }
     ensures count { length lanes.new ≡ length lanes.old }
     ensures cause { HasCause (K.faults sink.old) (K.faults sink.new) result }
@@ -214,7 +214,7 @@ fn run<S: Source, K: Sink, M: Medium, D: Disk>(
     requires fresh { lanes_of lanes.old ≡ replicate (length lanes.old) fresh }
     requires most { length lanes.old ≤ 64 }
     requires room { vec_len body.old ≡ 65535 }
-    ensures stands { Stands (length lanes.old) result (blocks_of core.old) (S.rest source.old) (S.rest source.new) (K.written sink.old) (K.written sink.new) }
+    ensures stands { Stands (length lanes.old) budget result (blocks_of core.old) (S.rest source.old) (S.rest source.new) (K.written sink.old) (K.written sink.new) }
     ensures causes { Causes (length lanes.old) result budget (S.rest source.old) }
     ensures begun { result ≡ Exit.BadWords → ⊥ }
     ensures read { result ≡ Exit.ReadFault → Rose (S.faults source.old) (S.faults source.new) }
@@ -260,7 +260,7 @@ pub fn replay_within<S: Source, K: Sink, M: Medium, D: Disk>(
 
     // The headline, for the commands that there are: one legal history whose run over the records
     // read gives the bytes written.
-    ensures stands { Stands lanes result (M.count medium.old) (S.rest source.old) (S.rest source.new) (K.written sink.old) (K.written sink.new) }
+    ensures stands { Stands lanes budget result (M.count medium.old) (S.rest source.old) (S.rest source.new) (K.written sink.old) (K.written sink.new) }
 
     // The causes of the exits, and that what the schedule alone brings is the exit.
     ensures causes { Causes lanes result budget (S.rest source.old) }
@@ -304,7 +304,7 @@ pub fn replay_main<S: Source, K: Sink, M: Medium, D: Disk>(
     disk: &mut D,
 ) -> Exit
     ensures words { result ≡ Exit.BadWords ↔ (¬ ((lanes : ℕ) × AsksReplay words.now lanes)) }
-    ensures stands { (lanes : ℕ) → AsksReplay words.now lanes → Stands lanes result (M.count medium.old) (S.rest source.old) (S.rest source.new) (K.written sink.old) (K.written sink.new) }
+    ensures stands { (lanes : ℕ) → AsksReplay words.now lanes → Stands lanes (2 ^ 32) result (M.count medium.old) (S.rest source.old) (S.rest source.new) (K.written sink.old) (K.written sink.new) }
     ensures causes { (lanes : ℕ) → AsksReplay words.now lanes → Causes lanes result (2 ^ 32) (S.rest source.old) }
     ensures decides { (lanes : ℕ) → AsksReplay words.now lanes → Decides lanes result (2 ^ 32) (S.rest source.old) }
     ensures read { result ≡ Exit.ReadFault → Rose (S.faults source.old) (S.faults source.new) }

@@ -88,6 +88,7 @@ impl Session {
         requires { Agrees (lane_of self.old).phase who core.old }
         ensures entries { Extends core.old core.new (closing who (lane_of self.old).phase) }
         ensures lane { lane_of self.new ≡ fresh }
+        ensures reply { reply_of self.new ≡ [] }
         ensures others { KeepsOthers who core.old core.new }
     {
         if let Phase::In(nexus) = self.phase {

@@ -1,4 +1,4 @@
-use Rattle.std.proofs.Common.{◌≤◌, ◌-◌, length}
+use Rattle.std.proofs.Common.{◌≡◌, ◌≤◌, ◌-◌, length}
 use Rattle.pr_tool.proofs.Outputting.{HasWritten}
 use Rattle.pr_tool.proofs.output.put_records.Given as goal
 
@@ -7,7 +7,7 @@ invariant-loop-at g l =
     record {
       within : l.at ≤ length l.bytes;
       written : HasWritten (g.K.Sink.written l.initial.sink) (g.K.Sink.written l.sink) l.lane l.bytes l.at;
-      later : g.K.Sink.faults l.initial.sink ≤ g.K.Sink.faults l.sink;
+      calm : g.K.Sink.faults l.sink ≡ g.K.Sink.faults l.initial.sink;
     }
 
 abbrev pub decreases-loop-at : goal.decreases-loop-at

@@ -12,12 +12,12 @@ abbrev pub invariant-loop-at : goal.invariant-loop-at
 invariant-loop-at g l =
     record {
       within : l.at ≤ length l.bytes;
-      ran : Ran (Makes_room l.who l.bytes) (g.K.Sink.written l.initial.sink) (g.K.Sink.written l.sink) l.initial.core (lane_of l.fn.lane) l.core (arrived (lane_of l.lane) (drop l.at l.bytes)) [];
+      ran : Ran (Makes_room l.who l.bytes) (g.K.Sink.written l.initial.sink) (g.K.Sink.written l.sink) l.initial.core (lane_of l.fn.lane) l.core (arrived (lane_of l.lane) (drop l.at l.bytes));
       agrees : Agrees (lane_of l.lane).phase l.who l.core;
       others : KeepsOthers l.who l.initial.core l.core;
       full : l.at < length l.bytes → (length (lane_of l.lane).bytes ≡ HELD) × ((lane_of l.lane).phase ≡ Dead → ⊥);
       bound : length (lane_of l.lane).bytes ≤ HELD;
-      later : g.K.Sink.faults l.initial.sink ≤ g.K.Sink.faults l.sink;
+      calm : g.K.Sink.faults l.sink ≡ g.K.Sink.faults l.initial.sink;
     }
 
 abbrev pub decreases-loop-at : goal.decreases-loop-at

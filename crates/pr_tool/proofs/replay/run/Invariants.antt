@@ -9,7 +9,7 @@ use Rattle.pr_tool.proofs.replay.run.Given as goal
 abbrev pub invariant-records : goal.invariant-records
 invariant-records g l =
     record {
-      goes : GoesOn (length l.initial.lanes) l.core (blocks_of l.initial.core) (g.S.Source.rest l.initial.source) (g.S.Source.rest l.source) (g.K.Sink.written l.initial.sink) (g.K.Sink.written l.sink) (lanes_of l.lanes) (l.budget - l.left);
+      goes : GoesOn (length l.initial.lanes) l.budget l.left l.core (blocks_of l.initial.core) (g.S.Source.rest l.initial.source) (g.S.Source.rest l.source) (g.K.Sink.written l.initial.sink) (g.K.Sink.written l.sink) (lanes_of l.lanes);
       carries : CarriesTold (length l.initial.lanes) l.budget l.left (g.S.Source.rest l.initial.source) (g.S.Source.rest l.source);
       within : l.left ≤ l.budget;
       agree : AllAgree (lanes_of l.lanes) l.core;
