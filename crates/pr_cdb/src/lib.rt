@@ -1,11 +1,13 @@
 //! Command descriptor blocks of SPC-4 and SBC-3: the thirteen that the target serves.
 #![tactic(auto)]
 
+mod operations;
 mod reading;
 mod writing;
 
-pub use pr_grammar::{Cdb, CdbFault, Class, Command};
-pub use reading::{class, read};
+pub use operations::{class, is_unconditional, operation};
+pub use pr_grammar::{Cdb, CdbFault, Class, Command, OperationCode};
+pub use reading::read;
 pub use writing::write;
 
 #[cfg(test)]

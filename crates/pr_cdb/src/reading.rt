@@ -1,7 +1,9 @@
-ghost use Rattle.std.specs.Prelude.{◌≡◌, ◌<◌, ◌≤◌, length, true};
-ghost use Rattle.pr_grammar.specs.Cdbs.{is_known as spec_known, cdb_length, class_of, command_of as spec_command, read_cdb};
+ghost use Rattle.std.specs.Prelude.{◌≡◌, ◌≤◌, ◌<◌, length};
+ghost use Rattle.pr_grammar.specs.Operations.{row_of};
+ghost use Rattle.pr_grammar.specs.Cdbs.{command_by, read_cdb};
 
-use pr_grammar::{Cdb, CdbFault, Class, Command};
+use crate::operation;
+use pr_grammar::{Cdb, CdbFault, Command, OperationCode};
 use pr_words::{get_u16, get_u32, get_u64};
 
 /// Reads a CDB from the first bytes of `bytes`, by its operation code (SPC-4, SBC-3). Bits that no field of the command
@@ -16,10 +18,10 @@ pub fn read(bytes: &[u8]) -> Result<Cdb, CdbFault>
     ensures { result ≡ read_cdb bytes.now }
 {
     let op = bytes[0];
-    if !is_known(op) {
+    let Some(operation) = operation(op) else {
         return Err(CdbFault::Unknown { op });
-    }
-    let need = length_of(op);
+    };
+    let need = length_of(operation);
     if bytes.len() < need {
         return Err(CdbFault::Short {
             need,
@@ -27,105 +29,88 @@ pub fn read(bytes: &[u8]) -> Result<Cdb, CdbFault>
         });
     }
     Ok(Cdb {
-        command: command_of(op, bytes),
+        command: command_of(operation, bytes),
         naca: bytes[need - 1] % 8 > 3,
     })
 }
 
-/// What the command with this operation code does to the medium, as far as reservations ask (SPC-4 and SBC-3, conflict
-/// tables). Operation codes that aren't served are `Free`, and so is PERSISTENT RESERVE OUT, which has rules of its own.
-pub fn class(op: u8) -> Class
-    ensures { result ≡ class_of op }
-{
-    match op {
-        0x28 | 0x88 => Class::Reads,
-        0x2A | 0x8A | 0x35 => Class::Writes,
-        _ => Class::Free,
-    }
-}
-
-fn is_known(op: u8) -> bool
-    ensures { result ≡ spec_known op }
-{
-    matches!(
-        op,
-        0x00 | 0x03 | 0x12 | 0x25 | 0x28 | 0x2A | 0x35 | 0x5E | 0x5F | 0x88 | 0x8A | 0x9E | 0xA0
-    )
-}
-
-/// How long a CDB is, by the group code in the top three bits of its operation code.
-fn length_of(op: u8) -> usize
-    ensures length { result ≡ cdb_length op }
+/// How many bytes the CDB has.
+fn length_of(operation: OperationCode) -> usize
+    ensures length { result ≡ (row_of operation).size }
     ensures least { 6 ≤ result }
 {
-    match op / 32 {
-        0 => 6,
-        4 => 16,
-        5 => 12,
-        _ => 10,
+    match operation {
+        OperationCode::TestUnitReady | OperationCode::RequestSense | OperationCode::Inquiry => 6,
+        OperationCode::ReadCapacity10
+        | OperationCode::Read10
+        | OperationCode::Write10
+        | OperationCode::SynchronizeCache10
+        | OperationCode::ReserveIn
+        | OperationCode::ReserveOut => 10,
+        OperationCode::ReportLuns => 12,
+        OperationCode::Read16 | OperationCode::Write16 | OperationCode::ReadCapacity16 => 16,
     }
 }
 
-fn command_of(op: u8, cdb: &[u8]) -> Command
-    requires known { spec_known op ≡ true }
-    requires whole { cdb_length op ≤ length cdb.now }
-    ensures { result ≡ spec_command op cdb.now }
+fn command_of(operation: OperationCode, cdb: &[u8]) -> Command
+    requires { (row_of operation).size ≤ length cdb.now }
+    ensures { result ≡ command_by operation cdb.now }
 {
-    match op {
-        0x00 => Command::TestUnitReady,
-        0x03 => Command::RequestSense {
+    match operation {
+        OperationCode::TestUnitReady => Command::TestUnitReady,
+        OperationCode::RequestSense => Command::RequestSense {
             descriptor: cdb[1] % 2 == 1,
             allocation: cdb[4],
         },
-        0x12 => Command::Inquiry {
+        OperationCode::Inquiry => Command::Inquiry {
             vital: cdb[1] % 2 == 1,
             page: cdb[2],
             allocation: get_u16(cdb, 3),
         },
-        0x25 => Command::ReadCapacity10,
-        0x28 => Command::Read {
+        OperationCode::ReadCapacity10 => Command::ReadCapacity10,
+        OperationCode::Read10 => Command::Read {
             wide: false,
             protect: cdb[1] / 32,
             lba: u64::from(get_u32(cdb, 2)),
             count: u32::from(get_u16(cdb, 7)),
         },
-        0x2A => Command::Write {
+        OperationCode::Write10 => Command::Write {
             wide: false,
             protect: cdb[1] / 32,
             lba: u64::from(get_u32(cdb, 2)),
             count: u32::from(get_u16(cdb, 7)),
         },
-        0x35 => Command::SynchronizeCache {
+        OperationCode::SynchronizeCache10 => Command::SynchronizeCache {
             lba: get_u32(cdb, 2),
             count: get_u16(cdb, 7),
         },
-        0x5E => Command::ReserveIn {
+        OperationCode::ReserveIn => Command::ReserveIn {
             action: cdb[1] % 32,
             allocation: get_u16(cdb, 7),
         },
-        0x5F => Command::ReserveOut {
+        OperationCode::ReserveOut => Command::ReserveOut {
             action: cdb[1] % 32,
             scope: cdb[2] / 16,
             kind: cdb[2] % 16,
             length: get_u32(cdb, 5),
         },
-        0x88 => Command::Read {
+        OperationCode::Read16 => Command::Read {
             wide: true,
             protect: cdb[1] / 32,
             lba: get_u64(cdb, 2),
             count: get_u32(cdb, 10),
         },
-        0x8A => Command::Write {
+        OperationCode::Write16 => Command::Write {
             wide: true,
             protect: cdb[1] / 32,
             lba: get_u64(cdb, 2),
             count: get_u32(cdb, 10),
         },
-        0x9E => Command::ReadCapacity16 {
+        OperationCode::ReadCapacity16 => Command::ReadCapacity16 {
             action: cdb[1] % 32,
             allocation: get_u32(cdb, 10),
         },
-        _ => Command::ReportLuns {
+        OperationCode::ReportLuns => Command::ReportLuns {
             select: cdb[2],
             allocation: get_u32(cdb, 6),
         },

@@ -1,6 +1,6 @@
 ghost use Rattle.pr_grammar.specs.Cdbs.{FitsFields};
 
-use crate::{Cdb, CdbFault, Class, Command, class, read, write};
+use crate::{Cdb, CdbFault, Class, Command, class, is_unconditional, operation, read, write};
 
 /// Whether the command is written as these bytes and read from them, also with more behind them, and not with one less.
 fn is_spelled(command: Command, naca: bool, bytes: &[u8]) -> bool
@@ -173,29 +173,32 @@ fn other_operation_codes_are_unknown(rt: HostRuntime) {
     for op in [
         0x01, 0x08, 0x0A, 0x16, 0x17, 0x2F, 0x5D, 0x60, 0x89, 0x91, 0xA1, 0xFF,
     ] {
+        assert!(rt; operation(op).is_none() && class(op) == Class::Free && !is_unconditional(op));
         assert!(rt; read(&[op]) == Err(CdbFault::Unknown { op }));
         assert!(rt; read(&[op; 16]) == Err(CdbFault::Unknown { op }));
     }
 }
 
 #[test]
-fn commands_have_the_class_of_the_conflict_tables(rt: HostRuntime) {
+fn operation_codes_have_the_rows_of_the_standard(rt: HostRuntime) {
     let table = [
-        (0x00, Class::Free),
-        (0x03, Class::Free),
-        (0x12, Class::Free),
-        (0x25, Class::Free),
-        (0x28, Class::Reads),
-        (0x2A, Class::Writes),
-        (0x35, Class::Writes),
-        (0x5E, Class::Free),
-        (0x5F, Class::Free),
-        (0x88, Class::Reads),
-        (0x8A, Class::Writes),
-        (0x9E, Class::Free),
-        (0xA0, Class::Free),
+        (0x00, Class::Free, false),
+        (0x03, Class::Free, true),
+        (0x12, Class::Free, true),
+        (0x25, Class::Free, false),
+        (0x28, Class::Reads, false),
+        (0x2A, Class::Writes, false),
+        (0x35, Class::Writes, false),
+        (0x5E, Class::Free, false),
+        (0x5F, Class::Free, false),
+        (0x88, Class::Reads, false),
+        (0x8A, Class::Writes, false),
+        (0x9E, Class::Free, false),
+        (0xA0, Class::Free, true),
     ];
-    for (op, want) in table {
-        assert!(rt; class(op) == want);
+    for (op, asks, unconditional) in table {
+        assert!(rt; operation(op).is_some());
+        assert!(rt; class(op) == asks);
+        assert!(rt; is_unconditional(op) == unconditional);
     }
 }

@@ -4,7 +4,7 @@ ghost use Rattle.std.specs.Prelude.{◌≡◌, ◌<◌, ◌-◌, ◌==◌, ℕ, 
 ghost use Rattle.pr_model.specs.Commands as model;
 ghost use Rattle.pr_core.specs.Admits.{PassesCdb, PassesData};
 
-use pr_cdb::{Command, read};
+use pr_cdb::{Command, OperationCode, is_unconditional, operation, read};
 use pr_param::read_out_list;
 use pr_words::{Code, Kind};
 
@@ -43,24 +43,25 @@ const INVALID_LIST: Code = Code {
     ascq: 0,
 };
 
-/// INQUIRY, REPORT LUNS and REQUEST SENSE are for every logical unit, and pass a unit attention.
-pub fn is_unconditional(operation: u8) -> bool
-    ensures { result ≡ model.is_unconditional operation }
-{
-    operation == 0x12 || operation == 0xA0 || operation == 0x03
-}
-
 /// Whether a command is for a logical unit that isn't there, other than 0.
-pub fn is_elsewhere(lun: u16, operation: u8) -> bool
-    ensures { result ≡ model.is_elsewhere lun operation }
+pub fn is_elsewhere(lun: u16, op: u8) -> bool
+    ensures { result ≡ model.is_elsewhere lun op }
 {
-    lun != 0 && !is_unconditional(operation)
+    lun != 0 && !is_unconditional(op)
 }
 
-fn is_served(operation: u8) -> bool
-    ensures { result ≡ model.is_served operation }
+fn is_served(op: u8) -> bool
+    ensures { result ≡ model.is_served op }
 {
-    operation == 0x00 || operation == 0x03 || operation == 0x5E || operation == 0x5F
+    matches!(
+        operation(op),
+        Some(
+            OperationCode::TestUnitReady
+                | OperationCode::RequestSense
+                | OperationCode::ReserveIn
+                | OperationCode::ReserveOut
+        )
+    )
 }
 
 /// Whether the command's own fields ask for what isn't supported.

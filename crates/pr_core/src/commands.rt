@@ -10,11 +10,9 @@ ghost use Rattle.pr_core.specs.Outs.{out_of, IsProper};
 ghost use Rattle.pr_core.specs.Admits.{Admits, PassesAttention, FitsCdb, FitsData, Serves, Senses, Reserves};
 
 use crate::answers::CommandOut;
-use crate::checks::{
-    INVALID_OPERATION, UNSUPPORTED_UNIT, check_cdb, check_data, is_elsewhere, is_unconditional,
-};
+use crate::checks::{INVALID_OPERATION, UNSUPPORTED_UNIT, check_cdb, check_data, is_elsewhere};
 use crate::state::State;
-use pr_cdb::Command;
+use pr_cdb::{Command, is_unconditional};
 use pr_param::{read_out_list, write_capabilities, write_full, write_keys, write_reservation};
 use pr_sense::{write_descriptor, write_fixed};
 use pr_table::{OutAction, Verdict};
@@ -28,7 +26,7 @@ const NO_SENSE: Code = Code {
 };
 
 impl State {
-    ghost use Rattle.pr_core.specs.States.{Makes, owner_at};
+    ghost use Rattle.pr_core.specs.States.{Enters, owner_at};
 
     /// A command of a nexus, with its data-out in the first bytes of the buffer.
     pub fn command(
@@ -43,7 +41,7 @@ impl State {
         requires cdb { 0 < length cdb.now }
         requires room { 524288 ≤ length buf.old }
         requires sent { out_len ≤ length buf.old }
-        ensures makes { (who : ℕ) → owner_at self.old nexus ≡ Some who → Makes self.old self.new (entry who nexus (Commands lun cdb.now (take out_len buf.old)) (out_of result buf.new)) }
+        ensures enters { (who : ℕ) → owner_at self.old nexus ≡ Some who → Enters self.old self.new (entry who nexus (Commands lun cdb.now (take out_len buf.old)) (out_of result buf.new)) }
         ensures owner { owner_at self.new ≡ owner_at self.old }
         ensures proper { IsProper result }
     {

@@ -3,4 +3,5 @@ pub mod Spellings
 pub mod Records
 pub mod Beginnings
 pub mod Framings
+pub mod Coding
 mod Shown

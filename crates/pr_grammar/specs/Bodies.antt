@@ -32,16 +32,17 @@ login_nexus body = record { name = number64_at body 4; port = number16_at body 2
 abbrev pub command_head : List ℕ → List ℕ
 command_head cdb = (length cdb ∷ 0 ∷ 0 ∷ 0 ∷ []) ++ cdb ++ replicate (16 - length cdb) 0
 
-abbrev pub cdb_length : List ℕ → ℕ
-cdb_length body = slice_index body 0
+-- how many bytes of CDB a body announces
+abbrev pub announced_cdb : List ℕ → ℕ
+announced_cdb body = slice_index body 0
 
 abbrev pub is_command_body : List ℕ → Bool
 is_command_body body =
-    not (nat_lt (length body) 20) && nat_lt 0 (cdb_length body) && nat_lt (cdb_length body) 17
-    && list_all is_zero (slice_range body 1 4) && list_all is_zero (slice_range body (4 + cdb_length body) 20)
+    not (nat_lt (length body) 20) && nat_lt 0 (announced_cdb body) && nat_lt (announced_cdb body) 17
+    && list_all is_zero (slice_range body 1 4) && list_all is_zero (slice_range body (4 + announced_cdb body) 20)
 
 abbrev pub command_cdb : List ℕ → List ℕ
-command_cdb body = slice_range body 4 (4 + cdb_length body)
+command_cdb body = slice_range body 4 (4 + announced_cdb body)
 
 abbrev pub command_data : List ℕ → List ℕ
 command_data body = drop 20 body

@@ -1,5 +1,5 @@
 -- Command descriptor blocks (SPC-4, command descriptor block; the commands' own layouts in SPC-4 and SBC-3).
-use Rattle.std.specs.Prelude.{ℕ, ◌+◌, ◌-◌, ◌*◌, ◌/◌, ◌%◌, ◌<◌, ◌^◌, ◌==◌, ◌||◌, nat_lt, not, Bool, true, false, List, [], ◌∷◌, ◌++◌, length, slice_index, Result, Ok, Err, if◌then◌else◌}
+use Rattle.std.specs.Prelude.{ℕ, ◌+◌, ◌-◌, ◌*◌, ◌/◌, ◌%◌, ◌<◌, ◌^◌, ◌==◌, ◌||◌, nat_lt, not, Bool, true, false, List, [], ◌∷◌, ◌++◌, length, slice_index, Option, Some, None, Result, Ok, Err, if◌then◌else◌}
 use Rattle.std.specs.Int.{w16, w32, w64, to_be_bytes}
 use Rattle.pr_words.specs.Fields.{number16_at, number32_at, number64_at}
 use Rattle.pr_grammar.specs.declared.cdb.Command.{Command}
@@ -7,8 +7,9 @@ use Rattle.pr_grammar.specs.declared.cdb.Command.TheVariants.{TestUnitReady, Req
 use Rattle.pr_grammar.specs.declared.cdb.Cdb.{Cdb}
 use Rattle.pr_grammar.specs.declared.cdb.CdbFault.{CdbFault}
 use Rattle.pr_grammar.specs.declared.cdb.CdbFault.TheVariants.{Unknown, Short}
-use Rattle.pr_grammar.specs.declared.cdb.Class.{Class}
-use Rattle.pr_grammar.specs.declared.cdb.Class.TheVariants.{Reads, Writes, Free}
+use Rattle.pr_grammar.specs.declared.operation.OperationCode.{OperationCode}
+use Rattle.pr_grammar.specs.declared.operation.OperationCode.TheVariants as operations
+use Rattle.pr_grammar.specs.Operations.{row_of, operation_at}
 
 -- Fields
 
@@ -39,55 +40,42 @@ reserve_in_allocation cdb = number16_at cdb 7
 abbrev pub reserve_out_length : List ℕ → ℕ
 reserve_out_length cdb = number32_at cdb 5
 
--- Operation codes (SPC-4 and SBC-3)
-
--- the commands that are served
-abbrev pub is_known : ℕ → Bool
-is_known op =
-    op == 0x00 || op == 0x03 || op == 0x12 || op == 0x25 || op == 0x28 || op == 0x2A || op == 0x35
-    || op == 0x5E || op == 0x5F || op == 0x88 || op == 0x8A || op == 0x9E || op == 0xA0
-
--- how long a CDB is, by the group code in the top three bits of its operation code
-abbrev pub group_length : ℕ → ℕ
-group_length group =
-    if group == 0 then 6 else
-    if group == 4 then 16 else
-    if group == 5 then 12 else 10
-
-abbrev pub cdb_length : ℕ → ℕ
-cdb_length op = group_length (op / 32)
-
--- what reservations ask of a command
-abbrev pub class_of : ℕ → Class
-class_of op =
-    if op == 0x28 || op == 0x88 then Reads else
-    if op == 0x2A || op == 0x8A || op == 0x35 then Writes else Free
-
 -- Reading: bits and bytes that no field has are ignored
 
--- the command of a CDB that is whole and whose operation code is known
-abbrev pub command_of : ℕ → List ℕ → Command
-command_of op cdb =
-    if op == 0x00 then TestUnitReady else
-    if op == 0x03 then RequestSense (lowest_bit cdb) (slice_index cdb 4) else
-    if op == 0x12 then Inquiry (lowest_bit cdb) (slice_index cdb 2) (number16_at cdb 3) else
-    if op == 0x25 then ReadCapacity10 else
-    if op == 0x28 then Read false (protection cdb) (number32_at cdb 2) (number16_at cdb 7) else
-    if op == 0x2A then Write false (protection cdb) (number32_at cdb 2) (number16_at cdb 7) else
-    if op == 0x35 then SynchronizeCache (number32_at cdb 2) (number16_at cdb 7) else
-    if op == 0x5E then ReserveIn (service_action cdb) (reserve_in_allocation cdb) else
-    if op == 0x5F then ReserveOut (service_action cdb) (slice_index cdb 2 / 16) (slice_index cdb 2 % 16) (reserve_out_length cdb) else
-    if op == 0x88 then Read true (protection cdb) (number64_at cdb 2) (number32_at cdb 10) else
-    if op == 0x8A then Write true (protection cdb) (number64_at cdb 2) (number32_at cdb 10) else
-    if op == 0x9E then ReadCapacity16 (service_action cdb) (number32_at cdb 10) else
-    ReportLuns (slice_index cdb 2) (number32_at cdb 6)
+-- the command of a CDB that is whole, by its operation code
+abbrev pub command_by : OperationCode → List ℕ → Command
+command_by operations.TestUnitReady cdb = TestUnitReady
+command_by operations.RequestSense cdb = RequestSense (lowest_bit cdb) (slice_index cdb 4)
+command_by operations.Inquiry cdb = Inquiry (lowest_bit cdb) (slice_index cdb 2) (number16_at cdb 3)
+command_by operations.ReadCapacity10 cdb = ReadCapacity10
+command_by operations.Read10 cdb = Read false (protection cdb) (number32_at cdb 2) (number16_at cdb 7)
+command_by operations.Write10 cdb = Write false (protection cdb) (number32_at cdb 2) (number16_at cdb 7)
+command_by operations.SynchronizeCache10 cdb = SynchronizeCache (number32_at cdb 2) (number16_at cdb 7)
+command_by operations.ReserveIn cdb = ReserveIn (service_action cdb) (reserve_in_allocation cdb)
+command_by operations.ReserveOut cdb = ReserveOut (service_action cdb) (slice_index cdb 2 / 16) (slice_index cdb 2 % 16) (reserve_out_length cdb)
+command_by operations.Read16 cdb = Read true (protection cdb) (number64_at cdb 2) (number32_at cdb 10)
+command_by operations.Write16 cdb = Write true (protection cdb) (number64_at cdb 2) (number32_at cdb 10)
+command_by operations.ReadCapacity16 cdb = ReadCapacity16 (service_action cdb) (number32_at cdb 10)
+command_by operations.ReportLuns cdb = ReportLuns (slice_index cdb 2) (number32_at cdb 6)
 
--- a CDB, or the fault: the operation code is looked at first, then the length; what stands behind a CDB is ignored
+-- the same by the operation code's byte; where no command has it, the value says nothing
+abbrev pub command_in : Option OperationCode → List ℕ → Command
+command_in None cdb = TestUnitReady
+command_in (Some operation) cdb = command_by operation cdb
+
+abbrev pub command_of : ℕ → List ℕ → Command
+command_of op cdb = command_in (operation_at op) cdb
+
+-- a CDB with an operation code, or none; what stands behind a CDB is ignored
+abbrev pub read_by : Option OperationCode → List ℕ → Result Cdb CdbFault
+read_by None bytes = Err (Unknown (operation_code bytes))
+read_by (Some operation) bytes =
+    if nat_lt (length bytes) (row_of operation).size then Err (Short (row_of operation).size (length bytes)) else
+    Ok (record { command = command_by operation bytes; naca = is_naca ((row_of operation).size - 1) bytes })
+
+-- a CDB, or the fault: the operation code is looked at first, then the length
 abbrev pub read_cdb : List ℕ → Result Cdb CdbFault
-read_cdb bytes =
-    if not (is_known (operation_code bytes)) then Err (Unknown (operation_code bytes)) else
-    if nat_lt (length bytes) (cdb_length (operation_code bytes)) then Err (Short (cdb_length (operation_code bytes)) (length bytes)) else
-    Ok (record { command = command_of (operation_code bytes) bytes; naca = is_naca (cdb_length (operation_code bytes) - 1) bytes })
+read_cdb bytes = read_by (operation_at (operation_code bytes)) bytes
 
 -- Spelling: reserved and ignored bits are zero
 

@@ -1,5 +1,6 @@
 pub mod Standings
 pub mod Senses
+pub mod Operations
 pub mod Cdbs
 pub mod OutLists
 pub mod InReplies

@@ -1,5 +1,6 @@
 -- What the objects outside tell of themselves (this project's own).
-use Rattle.std.specs.Prelude.{ℕ, List, Option}
+use Rattle.std.specs.Prelude.{◌≡◌, ℕ, List, Option}
+use Rattle.pr_io.specs.Causes.{next_fault}
 use Rattle.pr_io.specs.declared.outside.Source as source
 use Rattle.pr_io.specs.declared.outside.Sink as sink
 use Rattle.pr_io.specs.declared.outside.Medium as medium
@@ -24,11 +25,12 @@ pub record ToldMedium : Type 0 where
 pub record ToldDisk : Type 0 where
   pub faults : ℕ
 
--- the streams of a run, and all four of its objects (this project's own)
+-- the two streams of a run (this project's own)
 pub record ToldStreams : Type 0 where
   pub source : ToldSource
   pub sink : ToldSink
 
+-- all four objects of a run (this project's own)
 pub record Told : Type 0 where
   pub streams : ToldStreams
   pub medium : ToldMedium
@@ -48,3 +50,17 @@ told_disk of d = record { faults = of.faults d }
 
 abbrev pub told_streams : {S K : Type 0} → source.Ghosts S → sink.Ghosts K → S → K → ToldStreams
 told_streams of_source of_sink s k = record { source = told_source of_source s; sink = told_sink of_sink k }
+
+abbrev pub told : {S K M D : Type 0} → source.Ghosts S → sink.Ghosts K → medium.Ghosts M → disk.Ghosts D → S → K → M → D → Told
+told of_source of_sink of_medium of_disk s k m d =
+    record { streams = told_streams of_source of_sink s k; medium = told_medium of_medium m; disk = told_disk of_disk d }
+
+-- which of the two streams failed, once: neither, the source, or the sink (this project's own)
+abbrev pub NoneFailed : ToldStreams → ToldStreams → Type 0
+NoneFailed before after = (after.source.faults ≡ before.source.faults) × (after.sink.faults ≡ before.sink.faults)
+
+abbrev pub SourceFailed : ToldStreams → ToldStreams → Type 0
+SourceFailed before after = (after.source.faults ≡ next_fault before.source.faults) × (after.sink.faults ≡ before.sink.faults)
+
+abbrev pub SinkFailed : ToldStreams → ToldStreams → Type 0
+SinkFailed before after = (after.source.faults ≡ before.source.faults) × (after.sink.faults ≡ next_fault before.sink.faults)

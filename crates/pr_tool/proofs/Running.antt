@@ -2,40 +2,30 @@
 use Rattle.std.proofs.Common.{◌≡◌, ℕ, suc, zero, ◌+◌, ◌-◌, ◌≤◌, ◌<◌, List, [], ◌++◌, length, take, drop, min, Option, refl, sym, ap, ◌∙◌, append_assoc, subst, arith}
 use Rattle.std.proofs.lemmas.List.{append-nil, take-append-drop, length-append, length-take, length-drop, drop-drop, drop_all, take_all}
 use Rattle.pr_io.specs.Streams.{Put, PutSome}
+use Rattle.pr_io.specs.Told.{ToldSink}
 use Rattle.pr_io.proofs.Pieces.{put_more, put_nothing}
 use Rattle.pr_grammar.specs.Outputs.{output_of}
 use Rattle.pr_grammar.specs.Schedules.{Arrival}
 use Rattle.pr_model.specs.Limits.{HELD}
 use Rattle.pr_model.specs.Entries.{History}
-use Rattle.pr_model.specs.Histories.{after, IsLegalFrom}
-use Rattle.pr_model.specs.Worlds.{World}
 use Rattle.pr_model.specs.Lanes.{Lane, Phase, Fresh, In, Dead, fresh, arrived, turn}
 use Rattle.pr_model.specs.Runs.{Deed, deed, TakesTurn, TakesTurns, CutsTurn, RunsRecord, CutsRecord, closing, Closes}
-use Rattle.pr_model.proofs.HistoryLaws.{after-append, legal-append}
 use Rattle.pr_model.proofs.Overflow.{MadeRoom, Has_died, Has_room, room_made, takes_more, turns-append, arrived-append, arrived-nil}
+use Rattle.pr_io.specs.declared.outside.Medium as media
+use Rattle.pr_io.specs.declared.outside.Disk as disks
 use Rattle.pr_core.specs.declared.target.Core.{Core}
-use Rattle.pr_core.specs.View.{StandsFor, blocks_of, Extends}
+use Rattle.pr_core.specs.View.{Extends}
+use Rattle.pr_core.proofs.Entering.{extends_none, extends_append}
 use Rattle.pr_tool.specs.Following.{Agrees, Follows, fed, fed_at}
 use Rattle.pr_tool.specs.Exits.{Ran}
 
-pub extends_none : {M D : Type 0} (c : Core M D) → Extends c c []
-extends_none c = record { blocks = refl; legal = λ w is. tt; leads = λ w is. is }
-
-pub extends_more : {M D : Type 0} (a b c : Core M D) (xs ys : History) → Extends a b xs → Extends b c ys → Extends a c (xs ++ ys)
-extends_more a b c xs ys first second =
-    record {
-      blocks = second.blocks ∙ first.blocks;
-      legal = λ w is. legal-append (blocks_of a) w xs ys (first.legal w is) (subst (λ (n : ℕ). IsLegalFrom n (after (blocks_of a) w xs) ys) first.blocks (second.legal (after (blocks_of a) w xs) (first.leads w is)));
-      leads = λ w is. subst (λ (v : World). StandsFor c v) (ap (λ (n : ℕ). after n (after (blocks_of a) w xs) ys) first.blocks ∙ sym (after-append (blocks_of a) w xs ys)) (second.leads (after (blocks_of a) w xs) (first.leads w is));
-    }
-
 -- a turn whose reply was written
-pub turn_ran : {M D : Type 0} (who : ℕ) (old new : Core M D) (a b : Option (List ℕ)) (l m : Lane) (reply : List ℕ) → Follows who old l (turn l) new m reply → Put a b (output_of who reply) → Ran (TakesTurn who) a b old l new m
+pub turn_ran : {M D : Type 0} {gm : media.Ghosts M} {gd : disks.Ghosts D} (who : ℕ) (old new : Core M D gm gd) (a b : ToldSink) (l m : Lane) (reply : List ℕ) → Follows who old l (turn l) new m reply → Put a.written b.written (output_of who reply) → Ran (TakesTurn who) a b old l new m
 turn_ran who old new a b l m reply f put =
     record { entries = f.entries; output = output_of who reply; acts = (f.entries, reply, f.makes, refl); extends = f.extends; puts = put }
 
 -- a turn of whose reply just a front was written
-pub turn_cut : {M D : Type 0} (who : ℕ) (old new : Core M D) (a b : Option (List ℕ)) (l m : Lane) (reply : List ℕ) → Follows who old l (turn l) new m reply → PutSome a b (output_of who reply) → Ran (CutsTurn who) a b old l new m
+pub turn_cut : {M D : Type 0} {gm : media.Ghosts M} {gd : disks.Ghosts D} (who : ℕ) (old new : Core M D gm gd) (a b : ToldSink) (l m : Lane) (reply : List ℕ) → Follows who old l (turn l) new m reply → PutSome a.written b.written (output_of who reply) → Ran (CutsTurn who) a b old l new m
 turn_cut who old new a b l m reply f put =
     record {
       entries = f.entries;
@@ -63,7 +53,7 @@ made_room m more (Has_died l is) some = dead_fed m.phase m.bytes more is some
 made_room m more (Has_room l room) some = fed_room m.phase m.bytes more room some
 
 -- after a turn of a full lane that lives there is room
-pub turn_room : {M D : Type 0} (who : ℕ) (old new : Core M D) (l m : Lane) (reply : List ℕ) → Follows who old l (turn l) new m reply
+pub turn_room : {M D : Type 0} {gm : media.Ghosts M} {gd : disks.Ghosts D} (who : ℕ) (old new : Core M D gm gd) (l m : Lane) (reply : List ℕ) → Follows who old l (turn l) new m reply
     → length l.bytes ≡ HELD → (l.phase ≡ Dead → ⊥) → (more : List ℕ) → 0 < length more → 0 < fed m more
 turn_room who old new l m reply f full alive more some = made_room m more (room_made who l m f.entries reply full alive f.makes) some
 
@@ -109,33 +99,33 @@ fed_full l m more n is goes bound less =
 taken_and_rest : (l m : Lane) (bytes : List ℕ) (n : ℕ) → m ≡ arrived l (take n bytes) → arrived m (drop n bytes) ≡ arrived l bytes
 taken_and_rest l m bytes n goes = ap (λ (x : Lane). arrived x (drop n bytes)) goes ∙ arrived-append l (take n bytes) (drop n bytes) ∙ ap (arrived l) (take-append-drop n bytes)
 
-pub room_start : {M D : Type 0} (who : ℕ) (c : Core M D) (a : Option (List ℕ)) (l m : Lane) (bytes : List ℕ) (n : ℕ) → m ≡ arrived l (take n bytes) → Ran (Makes_room who bytes) a a c l c (arrived m (drop n bytes))
+pub room_start : {M D : Type 0} {gm : media.Ghosts M} {gd : disks.Ghosts D} (who : ℕ) (c : Core M D gm gd) (a : ToldSink) (l m : Lane) (bytes : List ℕ) (n : ℕ) → m ≡ arrived l (take n bytes) → Ran (Makes_room who bytes) a a c l c (arrived m (drop n bytes))
 room_start who c a l m bytes n goes =
     record {
       entries = [];
       output = [];
       acts = (zero, (refl, taken_and_rest l m bytes n goes));
       extends = extends_none c;
-      puts = put_nothing a;
+      puts = put_nothing a.written;
     }
 
-room_join : {M D : Type 0} (who : ℕ) (c0 c1 c2 : Core M D) (a b d : Option (List ℕ)) (l mid last : Lane) (bytes : List ℕ)
+room_join : {M D : Type 0} {gm : media.Ghosts M} {gd : disks.Ghosts D} (who : ℕ) (c0 c1 c2 : Core M D gm gd) (a b d : ToldSink) (l mid last : Lane) (bytes : List ℕ)
     → Ran (Makes_room who bytes) a b c0 l c1 mid → HELD < length mid.bytes → Ran (TakesTurn who) b d c1 mid c2 last → Ran (Makes_room who bytes) a d c0 l c2 last
 room_join who c0 c1 c2 a b d l mid last bytes first more next =
     record {
       entries = first.entries ++ next.entries;
       output = first.output ++ next.output;
       acts = (suc first.acts.0, turns-append first.acts.0 who (arrived l bytes) mid last (deed first.entries first.output) (deed next.entries next.output) first.acts.1 more next.acts);
-      extends = extends_more c0 c1 c2 first.entries next.entries first.extends next.extends;
-      puts = put_more a b d first.output next.output first.puts next.puts;
+      extends = extends_append c0 c1 c2 first.entries next.entries first.extends next.extends;
+      puts = put_more a.written b.written d.written first.output next.output first.puts next.puts;
     }
 
-turn_behind : {M D : Type 0} (who : ℕ) (c1 c2 : Core M D) (b d : Option (List ℕ)) (l m : Lane) (rest : List ℕ) → HELD ≤ length l.bytes
+turn_behind : {M D : Type 0} {gm : media.Ghosts M} {gd : disks.Ghosts D} (who : ℕ) (c1 c2 : Core M D gm gd) (b d : ToldSink) (l m : Lane) (rest : List ℕ) → HELD ≤ length l.bytes
     → Ran (TakesTurn who) b d c1 l c2 m → Ran (TakesTurn who) b d c1 (arrived l rest) c2 (arrived m rest)
 turn_behind who c1 c2 b d l m rest full ran =
     record { entries = ran.entries; output = ran.output; acts = takes_more who l m (deed ran.entries ran.output) rest full ran.acts; extends = ran.extends; puts = ran.puts }
 
-cut_behind : {M D : Type 0} (who : ℕ) (c1 c2 : Core M D) (b d : Option (List ℕ)) (l m : Lane) (rest : List ℕ) → HELD ≤ length l.bytes
+cut_behind : {M D : Type 0} {gm : media.Ghosts M} {gd : disks.Ghosts D} (who : ℕ) (c1 c2 : Core M D gm gd) (b d : ToldSink) (l m : Lane) (rest : List ℕ) → HELD ≤ length l.bytes
     → Ran (CutsTurn who) b d c1 l c2 m → Ran (CutsTurn who) b d c1 (arrived l rest) c2 (arrived m rest)
 cut_behind who c1 c2 b d l m rest full ran =
     record {
@@ -151,14 +141,14 @@ long_behind : (l : Lane) (rest : List ℕ) → length l.bytes ≡ HELD → (l.ph
 long_behind l rest full alive some = omega (arith, bytes_alive l.phase l.bytes rest l.place alive, full, some)
 
 -- one more turn of a full lane, with bytes that wait behind it
-pub room_more : {M D : Type 0} (who : ℕ) (c0 c1 c2 : Core M D) (a b d : Option (List ℕ)) (l mid next : Lane) (bytes rest : List ℕ)
+pub room_more : {M D : Type 0} {gm : media.Ghosts M} {gd : disks.Ghosts D} (who : ℕ) (c0 c1 c2 : Core M D gm gd) (a b d : ToldSink) (l mid next : Lane) (bytes rest : List ℕ)
     → Ran (Makes_room who bytes) a b c0 l c1 (arrived mid rest) → length mid.bytes ≡ HELD → (mid.phase ≡ Dead → ⊥) → 0 < length rest
     → Ran (TakesTurn who) b d c1 mid c2 next → Ran (Makes_room who bytes) a d c0 l c2 (arrived next rest)
 room_more who c0 c1 c2 a b d l mid next bytes rest first full alive some turn =
     room_join who c0 c1 c2 a b d l (arrived mid rest) (arrived next rest) bytes first (long_behind mid rest full alive some) (turn_behind who c1 c2 b d mid next rest (omega (arith, full)) turn)
 
 -- the same of a turn that is cut, with which an arrival ends
-pub room_cut : {M D : Type 0} (who : ℕ) (c0 c1 c2 : Core M D) (a b d : Option (List ℕ)) (l mid next : Lane) (bytes rest : List ℕ)
+pub room_cut : {M D : Type 0} {gm : media.Ghosts M} {gd : disks.Ghosts D} (who : ℕ) (c0 c1 c2 : Core M D gm gd) (a b d : ToldSink) (l mid next : Lane) (bytes rest : List ℕ)
     → Ran (Makes_room who bytes) a b c0 l c1 (arrived mid rest) → length mid.bytes ≡ HELD → (mid.phase ≡ Dead → ⊥) → 0 < length rest
     → Ran (CutsTurn who) b d c1 mid c2 next → Ran (CutsRecord (Arrival who bytes)) a d c0 l c2 (arrived next rest)
 room_cut who c0 c1 c2 a b d l mid next bytes rest first full alive some last =
@@ -178,12 +168,12 @@ room_cut who c0 c1 c2 a b d l mid next bytes rest first full alive some last =
           refl,
         ),
       );
-      extends = extends_more c0 c1 c2 first.entries cut.entries first.extends cut.extends;
-      puts = put_more a b d first.output cut.output first.puts cut.puts;
+      extends = extends_append c0 c1 c2 first.entries cut.entries first.extends cut.extends;
+      puts = put_more a.written b.written d.written first.output cut.output first.puts cut.puts;
     }
 
 -- the lane takes some of the bytes that wait
-pub room_fed : {M D : Type 0} (who : ℕ) (c0 c1 : Core M D) (a b : Option (List ℕ)) (l mid next : Lane) (bytes : List ℕ) (at n : ℕ)
+pub room_fed : {M D : Type 0} {gm : media.Ghosts M} {gd : disks.Ghosts D} (who : ℕ) (c0 c1 : Core M D gm gd) (a b : ToldSink) (l mid next : Lane) (bytes : List ℕ) (at n : ℕ)
     → Ran (Makes_room who bytes) a b c0 l c1 (arrived mid (drop at bytes)) → next ≡ arrived mid (take n (drop at bytes)) → Ran (Makes_room who bytes) a b c0 l c1 (arrived next (drop (at + n) bytes))
 room_fed who c0 c1 a b l mid next bytes at n ran goes =
     let same : arrived mid (drop at bytes) ≡ arrived next (drop (at + n) bytes) =
@@ -191,7 +181,7 @@ room_fed who c0 c1 a b l mid next bytes at n ran goes =
     subst (λ (x : Lane). Ran (Makes_room who bytes) a b c0 l c1 x) same ran
 
 -- all bytes were taken
-pub room_end : {M D : Type 0} (who : ℕ) (c0 c1 : Core M D) (a b : Option (List ℕ)) (l m : Lane) (bytes : List ℕ) (at : ℕ) → length bytes ≤ at → length m.bytes ≤ HELD
+pub room_end : {M D : Type 0} {gm : media.Ghosts M} {gd : disks.Ghosts D} (who : ℕ) (c0 c1 : Core M D gm gd) (a b : ToldSink) (l m : Lane) (bytes : List ℕ) (at : ℕ) → length bytes ≤ at → length m.bytes ≤ HELD
     → Ran (Makes_room who bytes) a b c0 l c1 (arrived m (drop at bytes)) → Ran (RunsRecord (Arrival who bytes)) a b c0 l c1 m
 room_end who c0 c1 a b l m bytes at all bound ran =
     let last : arrived m (drop at bytes) ≡ m = ap (arrived m) (drop_all at bytes all) ∙ arrived-nil m in
@@ -204,12 +194,12 @@ fed_within Fresh bytes more = omega arith
 fed_within (In n) bytes more = omega arith
 
 -- a session agrees with a core as before while bytes come
-pub agrees_still : {M D : Type 0} (who : ℕ) (c : Core M D) (l m : Lane) (more : List ℕ) → m ≡ arrived l more → Agrees l.phase who c → Agrees m.phase who c
+pub agrees_still : {M D : Type 0} {gm : media.Ghosts M} {gd : disks.Ghosts D} (who : ℕ) (c : Core M D gm gd) (l m : Lane) (more : List ℕ) → m ≡ arrived l more → Agrees l.phase who c → Agrees m.phase who c
 agrees_still who c l m more goes agrees = subst (λ (p : Phase). Agrees p who c) (sym (ap (λ (x : Lane). x.phase) goes ∙ same_phase l more)) agrees
 
 pub all_behind : (at : ℕ) (bytes : List ℕ) → take (length bytes - at) (drop at bytes) ≡ drop at bytes
 all_behind at bytes = take_all (length bytes - at) (drop at bytes) (omega (arith, length-drop at bytes))
 
 -- a connection that was closed, which writes nothing
-pub closed_ran : {M D : Type 0} (who : ℕ) (old new : Core M D) (a : Option (List ℕ)) (l m : Lane) → Extends old new (closing who l.phase) → m ≡ fresh → Ran (Closes who) a a old l new m
-closed_ran who old new a l m made is = record { entries = closing who l.phase; output = []; acts = (refl, is); extends = made; puts = put_nothing a }
+pub closed_ran : {M D : Type 0} {gm : media.Ghosts M} {gd : disks.Ghosts D} (who : ℕ) (old new : Core M D gm gd) (a : ToldSink) (l m : Lane) → Extends old new (closing who l.phase) → m ≡ fresh → Ran (Closes who) a a old l new m
+closed_ran who old new a l m made is = record { entries = closing who l.phase; output = []; acts = (refl, is); extends = made; puts = put_nothing a.written }
