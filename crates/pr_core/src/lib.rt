@@ -10,4 +10,4 @@ mod state;
 mod target;
 
 pub use answers::{CommandOut, OpenFault};
-pub use target::{Core, Opening};
+pub use target::{Core, Opening, Room};
