@@ -16,7 +16,7 @@ use Rattle.pr_model.specs.Acts as acts
 use Rattle.pr_model.specs.Acts.{acted}
 use Rattle.pr_model.specs.Worlds.{World}
 use Rattle.pr_model.specs.Entries.{entry, Out, Command as Commands}
-use Rattle.pr_model.specs.Commands.{Answer, answer, good, checking, is_elsewhere, attention_check, refused_where, unsupported_unit, unit_checks, operation_checks, conflict_checks, form_checks, command_checks, checks, first_or, served, sense_data, asked, answered, answered_by, reserve_out}
+use Rattle.pr_model.specs.Commands.{Answer, answer, good, checking, is_elsewhere, attention_check, refused_where, unsupported_unit, unit_checks, operation_checks, conflict_checks, form_checks, command_checks, checks, first_or, served, sense_data, answered, answered_by, reserve_out}
 use Rattle.pr_table.specs.declared.request.OutRequest.{OutRequest}
 use Rattle.pr_table.specs.Told.{requested}
 use Rattle.pr_core.specs.declared.answers.CommandOut.{CommandOut}

@@ -14,7 +14,7 @@ use Rattle.pr_model.specs.Acts.{Acted, Verdict as Verdicts, Good, Conflict, Bad,
 use Rattle.pr_model.specs.Attentions.{with_code, raised_any, is_other, told}
 use Rattle.pr_model.specs.Worlds.{World}
 use Rattle.pr_model.specs.Entries.{Out}
-use Rattle.pr_model.specs.Commands.{answer, good, conflict, checking, asked, by_verdict, reserve_out}
+use Rattle.pr_model.specs.Commands.{answer, good, conflict, checking, by_verdict, reserve_out}
 use Rattle.pr_model.proofs.Orders.{same_is}
 use Rattle.pr_model.proofs.Reaching.{acted_knows, acted_reaches}
 use Rattle.pr_table.specs.Tables.{standing_of, limit_of}

@@ -187,8 +187,8 @@ by_verdict w next (Bad c) = answer w (checking c)
 abbrev pub reserve_out : World → Nexus → Acted → Answer
 reserve_out w n a = by_verdict w (record w { standing = a.standing; attentions = told n a w.attentions }) a.verdict
 
-abbrev pub asked : ℕ → ℕ → ℕ → OutList → acts.ReserveOut
-asked action scope kind l =
+abbrev pub out_request : ℕ → ℕ → ℕ → OutList → acts.ReserveOut
+out_request action scope kind l =
     record { action = action; scope = scope; kind = kind; key = l.key; action_key = l.action_key; aptpl = l.aptpl }
 
 -- what a command does; those that aren't served yet were refused by their operation code
@@ -197,7 +197,7 @@ served w n lun TestUnitReady sent = answer w (good [])
 served w n lun (RequestSense descriptor allocation) sent = request_sense w n lun descriptor allocation
 served w n lun (ReserveIn action allocation) sent = answer w (good (take allocation (reserve_in_data action w.standing)))
 served w n lun (ReserveOut action scope kind list) sent =
-    reserve_out w n (acted LIMIT w.standing n (asked action scope kind (list_of sent)))
+    reserve_out w n (acted LIMIT w.standing n (out_request action scope kind (list_of sent)))
 served w n lun (Inquiry vital page allocation) sent = answer w (checking invalid_operation)
 served w n lun ReadCapacity10 sent = answer w (checking invalid_operation)
 served w n lun (ReadCapacity16 action allocation) sent = answer w (checking invalid_operation)

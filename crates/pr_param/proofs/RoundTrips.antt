@@ -18,7 +18,7 @@ use Rattle.pr_words.specs.Kinds.{kind_code}
 use Rattle.pr_grammar.specs.Cdbs.{bit}
 use Rattle.pr_grammar.specs.declared.param.Held.{Held}
 use Rattle.pr_grammar.specs.declared.param.FullEntry.{FullEntry}
-use Rattle.pr_grammar.specs.InReplies.{key_at, held_of, reservation_part, reservation_reply, read_reservation, told_reservation, capabilities_reply, read_capabilities, told_capabilities, holds, held_code, KeyList, FullList, key_bytes, keys_reply, full_reply, descriptor, keys_from, keys_sized, read_keys, entries_from, entry_of, first_odd, full_sized, read_full, FitsPair, listed_keys, listed_entries, told_entry}
+use Rattle.pr_grammar.specs.InReplies.{key_at, told_held, reservation_part, reservation_reply, read_reservation, told_reservation, capabilities_reply, read_capabilities, told_capabilities, holds, type_byte, KeyList, FullList, key_bytes, keys_reply, full_reply, descriptor, keys_from, keys_sized, read_keys, entries_from, entry_of, first_odd, full_sized, read_full, FitsPair, listed_keys, listed_entries, told_entry}
 use Rattle.pr_grammar.specs.Standings.{kind_of, holder_of}
 use Rattle.std.proofs.Math.Seq.{drop-append-add}
 use Rattle.pr_param.specs.Fits.{FitsKey, FitKeys, FitsHeld, FitFields}
@@ -72,7 +72,7 @@ of_one generation k kind = record { generation = generation; held = Some (key k,
 abbrev of_none : ℕ → Held
 of_none generation = record { generation = generation; held = None }
 
-pub part_read_back : (g : ℕ) (pairs : List Pair) (kind : Option Kind) (holder : Option Nexus) → g < 2 ^ 32 → ((k : Kind) (n : Nexus) → kind ≡ Some k → holder ≡ Some n → key_at pairs n < 2 ^ 64) → read_reservation (to_be_bytes w32 g ++ reservation_part pairs kind holder) ≡ Ok (record { generation = g; held = held_of pairs kind holder })
+pub part_read_back : (g : ℕ) (pairs : List Pair) (kind : Option Kind) (holder : Option Nexus) → g < 2 ^ 32 → ((k : Kind) (n : Nexus) → kind ≡ Some k → holder ≡ Some n → key_at pairs n < 2 ^ 64) → read_reservation (to_be_bytes w32 g ++ reservation_part pairs kind holder) ≡ Ok (record { generation = g; held = told_held pairs kind holder })
 part_read_back g pairs None holder gf fits = ap (λ n. Ok (of_none n)) (from_be_bytes-to_be_bytes_4 g gf)
 part_read_back g pairs (Some kind) None gf fits = ap (λ n. Ok (of_one n 0 kind)) (from_be_bytes-to_be_bytes_4 g gf)
 part_read_back g pairs (Some kind) (Some holder) gf fits =
@@ -102,7 +102,7 @@ entry_spelled kind holder p rest fits =
     let n : number64_at (to_be_bytes w64 p.nexus.name) 0 ≡ p.nexus.name = from_be_bytes-to_be_bytes_8 p.nexus.name fits.1 in
     let o : number16_at (to_be_bytes w16 p.nexus.port) 0 ≡ p.nexus.port = from_be_bytes-to_be_bytes_2 p.nexus.port fits.2 in
     let b = holds kind holder p.nexus in
-    let code = held_code kind holder p.nexus in
+    let code = type_byte kind holder p.nexus in
     ap (λ m. entry m (bit b % 2 == 1) code (number64_at (to_be_bytes w64 p.nexus.name) 0) (number16_at (to_be_bytes w16 p.nexus.port) 0)) k
     ∙ ap (λ h. entry p.key.0 h code (number64_at (to_be_bytes w64 p.nexus.name) 0) (number16_at (to_be_bytes w16 p.nexus.port) 0)) (bit_read b)
     ∙ ap (λ m. entry p.key.0 b code m (number16_at (to_be_bytes w16 p.nexus.port) 0)) n

@@ -1,6 +1,6 @@
 ghost use Rattle.std.specs.Prelude.{◌≡◌, ◌≤◌, ◌+◌, ◌∷◌, [], ◌++◌, ◌<◌, ◌^◌, Ok, length, take, drop, min};
 ghost use Rattle.std.specs.Int.{w32, w64, to_be_bytes};
-ghost use Rattle.pr_grammar.specs.InReplies.{FitsPair, read_keys, read_reservation, read_capabilities, read_full, listed_keys, told_reservation, told_capabilities, listed_entries, keys_reply, reservation_reply, capabilities_reply, full_reply, held_bytes, key_at as spec_key_at, descriptor as spec_descriptor, holds as spec_holds, held_code as spec_held_code};
+ghost use Rattle.pr_grammar.specs.InReplies.{FitsPair, read_keys, read_reservation, read_capabilities, read_full, listed_keys, told_reservation, told_capabilities, listed_entries, keys_reply, reservation_reply, capabilities_reply, full_reply, held_bytes, key_at as spec_key_at, descriptor as spec_descriptor, holds as spec_holds, type_byte as spec_held_code};
 ghost use Rattle.pr_grammar.specs.Cdbs.{bit};
 ghost use Rattle.pr_param.specs.Fits.{FitKeys, FitFields, FitsHeld};
 
@@ -208,7 +208,7 @@ fn descriptor(kind: Option<Kind>, holder: Option<Nexus>, nexus: Nexus, key: Key)
     let p = nexus.port.to_be_bytes();
     let n = nexus.name.to_be_bytes();
     let holds = u8::from(holds(kind, holder, nexus));
-    let code = held_code(kind, holder, nexus);
+    let code = type_byte(kind, holder, nexus);
     [
         k[0], k[1], k[2], k[3], k[4], k[5], k[6], k[7], 0, 0, 0, 0, holds, code, 0, 0, 0, 0, p[0],
         p[1], 0, 0, 0, 24, 6, 0, 0, 0, n[0], n[1], n[2], n[3], n[4], n[5], n[6], n[7], 0, 0, 0, 0,
@@ -228,7 +228,7 @@ fn holds(kind: Option<Kind>, holder: Option<Nexus>, nexus: Nexus) -> bool
 }
 
 /// The byte of scope and type of a registered nexus.
-fn held_code(kind: Option<Kind>, holder: Option<Nexus>, nexus: Nexus) -> u8
+fn type_byte(kind: Option<Kind>, holder: Option<Nexus>, nexus: Nexus) -> u8
     ensures { result ≡ spec_held_code kind holder nexus }
 {
     match (kind, holder) {

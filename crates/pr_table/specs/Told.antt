@@ -12,9 +12,9 @@ use Rattle.pr_table.specs.declared.request.OutRequest.{OutRequest}
 use Rattle.pr_table.specs.declared.verdict.Verdict.{Verdict}
 use Rattle.pr_table.specs.declared.verdict.Verdict.TheVariants.{Good, Conflict, Bad}
 
--- the command by its CDB and its parameter list
-abbrev pub asked : OutAction → OutList → ReserveOut
-asked a l = record { action = a.action; scope = a.scope; kind = a.kind; key = l.key; action_key = l.action_key; aptpl = l.aptpl }
+-- the command by its CDB, with the service action's number or its name, and by its parameter list
+abbrev pub numbered : OutAction → OutList → ReserveOut
+numbered a l = record { action = a.action; scope = a.scope; kind = a.kind; key = l.key; action_key = l.action_key; aptpl = l.aptpl }
 
 abbrev pub requested : OutRequest → OutList → ReserveOut
 requested r l = record { action = out_service_code r.service; scope = r.scope; kind = r.kind; key = l.key; action_key = l.action_key; aptpl = l.aptpl }

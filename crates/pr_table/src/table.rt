@@ -47,7 +47,7 @@ impl Table {
     ghost use Rattle.pr_words.specs.Services.{out_service_code};
     ghost use Rattle.pr_model.specs.Worlds.{restored};
     ghost use Rattle.pr_table.specs.Tables.{standing_of, limit_of, removed_of};
-    ghost use Rattle.pr_table.specs.Told.{asked, requested, Does, Keeps, Aborts};
+    ghost use Rattle.pr_table.specs.Told.{numbered, requested, Does, Keeps, Aborts};
     ghost use Rattle.pr_table.specs.Goes.{goes};
     ghost use Rattle.pr_table.specs.Noted.{Notes, looks_still};
     ghost use Rattle.pr_table.specs.Places.{IsPlace};
@@ -147,7 +147,7 @@ impl Table {
     /// Serves a PERSISTENT RESERVE OUT whose service action is given by its number, as `serve` does.
     pub fn act(&mut self, nexus: Nexus, action: &OutAction, list: &OutList) -> Verdict
         requires { action.now.action ≤ 6 }
-        ensures does { Does (acted (limit_of self.old) (standing_of self.old) nexus (asked action.now list.now)) result (standing_of self.new) (removed_of self.new) }
+        ensures does { Does (acted (limit_of self.old) (standing_of self.old) nexus (numbered action.now list.now)) result (standing_of self.new) (removed_of self.new) }
         ensures keeps { Keeps result (standing_of self.old) (standing_of self.new) }
         ensures abort { Aborts result action.now.action }
         ensures limit { limit_of self.new ≡ limit_of self.old }
