@@ -32,7 +32,7 @@ use Rattle.pr_core.specs.Outs.{out_of}
 use Rattle.pr_core.specs.Slots.{seat_in}
 use Rattle.pr_core.specs.Seats.{seat_of, count_of, attentions_in, owner_in, Lists}
 use Rattle.pr_core.specs.Telling.{raised_where, told_seat}
-use Rattle.pr_core.specs.States.{world_with, Shows}
+use Rattle.pr_core.specs.States.{world_with, Depicts}
 use Rattle.pr_core.specs.Admits.{Reserves}
 
 -- the seat of a nexus is its own
@@ -129,27 +129,28 @@ conflicting w n a is = ap (λ (v : Verdicts). by_verdict w (next w n a) v) is
 refused : (w : World) (n : Nexus) (a : Acted) (c : Code) → a.verdict ≡ Bad c → reserve_out w n a ≡ answer w (checking c)
 refused w n a c is = ap (λ (v : Verdicts). by_verdict w (next w n a) v) is
 
-standing_in : (s : State) (w : World) → Shows s w → w.standing ≡ standing_of s.table
-standing_in s w shows = ap (λ (x : World). x.standing) shows.world
+standing_in : (s : State) (w : World) → Depicts s w → w.standing ≡ standing_of s.table
+standing_in s w depicts = ap (λ (x : World). x.standing) depicts.world
 
-same_shows : (old new : State) (w : World) → standing_of new.table ≡ standing_of old.table → new.seats ≡ old.seats → Shows old w → Shows new w
-same_shows old new w standing seats shows =
+same_depicts : (old new : State) (w : World) → standing_of new.table ≡ standing_of old.table → new.seats ≡ old.seats → Depicts old w → Depicts new w
+same_depicts old new w standing seats depicts =
     record {
-      known = shows.known;
-      lists = rw seats shows.lists;
-      world = shows.world ∙ rw (standing, seats) refl;
+      medium = depicts.medium;
+      known = depicts.known;
+      lists = rw seats depicts.lists;
+      world = depicts.world ∙ rw (standing, seats) refl;
     }
 
 pub reserves_conflict : (old new : State) (n : Nexus) (o : ReserveOut) (result : CommandOut) → standing_of new.table ≡ standing_of old.table → new.seats ≡ old.seats → (acted LIMIT (standing_of old.table) n o).verdict ≡ Conflict → result ≡ outs.Ended status.ReservationConflict None 0 → Reserves old new n o result
-reserves_conflict old new n o result standing seats is told w shows =
-    (w, same_shows old new w standing seats shows, λ buf. ap (λ (s : Standing). reserve_out w n (acted LIMIT s n o)) (standing_in old w shows) ∙ conflicting w n (acted LIMIT (standing_of old.table) n o) is ∙ ap (λ (r : CommandOut). answer w (out_of r buf)) (sym told))
+reserves_conflict old new n o result standing seats is told w depicts =
+    (w, same_depicts old new w standing seats depicts, λ buf. ap (λ (s : Standing). reserve_out w n (acted LIMIT s n o)) (standing_in old w depicts) ∙ conflicting w n (acted LIMIT (standing_of old.table) n o) is ∙ ap (λ (r : CommandOut). answer w (out_of r buf)) (sym told))
 
 pub reserves_bad : (old new : State) (n : Nexus) (o : ReserveOut) (c : Code) (result : CommandOut) → standing_of new.table ≡ standing_of old.table → new.seats ≡ old.seats → (acted LIMIT (standing_of old.table) n o).verdict ≡ Bad c → ((buf : List ℕ) → out_of result buf ≡ checking c) → Reserves old new n o result
-reserves_bad old new n o c result standing seats is out w shows = (
+reserves_bad old new n o c result standing seats is out w depicts = (
   w,
-  same_shows old new w standing seats shows,
+  same_depicts old new w standing seats depicts,
   λ buf.
-      ap (λ (s : Standing). reserve_out w n (acted LIMIT s n o)) (standing_in old w shows) ∙ refused w n (acted LIMIT (standing_of old.table) n o) c is ∙ ap (λ (x : Out). answer w x) (sym (out buf)),
+      ap (λ (s : Standing). reserve_out w n (acted LIMIT s n o)) (standing_in old w depicts) ∙ refused w n (acted LIMIT (standing_of old.table) n o) c is ∙ ap (λ (x : Out). answer w x) (sym (out buf)),
 )
 
 tells_lists : (old new : State) (n : Nexus) (a : Acted) (k : List Nexus) → Tells (seat_of old.seats) (seat_of new.seats) n a → count_of new.seats ≡ count_of old.seats → Lists k old.seats → Lists k new.seats
@@ -157,21 +158,22 @@ tells_lists old new n a k tells count lists = record { count = lists.count ∙ s
 
 pub reserves_good : (old new : State) (n : Nexus) (o : ReserveOut) (result : CommandOut) → standing_of new.table ≡ (acted LIMIT (standing_of old.table) n o).standing → Tells (seat_of old.seats) (seat_of new.seats) n (acted LIMIT (standing_of old.table) n o) → count_of new.seats ≡ count_of old.seats
     → (acted LIMIT (standing_of old.table) n o).verdict ≡ Good → result ≡ outs.Ended status.Good None 0 → Reserves old new n o result
-reserves_good old new n o result standing tells count is told_it w shows =
+reserves_good old new n o result standing tells count is told_it w depicts =
     let a : Acted = acted LIMIT (standing_of old.table) n o in
     let f : Nexus → Option Seat = seat_of old.seats in
     let g : Nexus → Option Seat = seat_of new.seats in (
       next w n a,
       record {
-        known = shows.known;
-        lists = tells_lists old new n a shows.known tells count shows.lists;
+        medium = depicts.medium;
+        known = depicts.known;
+        lists = tells_lists old new n a depicts.known tells count depicts.lists;
         world =
-            ap (λ (x : World). next x n a) shows.world
-            ∙ ap (λ (s : Standing). record (world_with s f shows.known) { attentions = told n a (λ k. attentions_in (f k)) }) (sym standing)
-            ∙ ap (λ (l : Nexus → List Code). record (world_with (standing_of new.table) f shows.known) { attentions = l }) (fun_ext (λ m. sym (attentions_told f g n a tells m)))
-            ∙ ap (λ (l : Nexus → Option ℕ). record (world_with (standing_of new.table) g shows.known) { owner = l }) (fun_ext (λ m. sym (tells_owner f g n a tells m)));
+            ap (λ (x : World). next x n a) depicts.world
+            ∙ ap (λ (s : Standing). record (world_with depicts.medium s f depicts.known) { attentions = told n a (λ k. attentions_in (f k)) }) (sym standing)
+            ∙ ap (λ (l : Nexus → List Code). record (world_with depicts.medium (standing_of new.table) f depicts.known) { attentions = l }) (fun_ext (λ m. sym (attentions_told f g n a tells m)))
+            ∙ ap (λ (l : Nexus → Option ℕ). record (world_with depicts.medium (standing_of new.table) g depicts.known) { owner = l }) (fun_ext (λ m. sym (tells_owner f g n a tells m)));
       },
-      λ buf. ap (λ (s : Standing). reserve_out w n (acted LIMIT s n o)) (standing_in old w shows) ∙ accepted w n a is ∙ ap (λ (r : CommandOut). answer (next w n a) (out_of r buf)) (sym told_it),
+      λ buf. ap (λ (s : Standing). reserve_out w n (acted LIMIT s n o)) (standing_in old w depicts) ∙ accepted w n a is ∙ ap (λ (r : CommandOut). answer (next w n a) (out_of r buf)) (sym told_it),
     )
 
 was_list : (b : Bool) (f : ParamFault) (l m : OutList) → b ≡ true → cond (not b) (Err f) (Ok m) ≡ Ok l → l ≡ m

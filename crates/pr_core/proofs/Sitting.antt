@@ -7,7 +7,7 @@ use Rattle.pr_words.specs.declared.code.Code.{Code}
 use Rattle.pr_words.specs.Orders.{same_nexus}
 use Rattle.pr_grammar.specs.Standings.{Standing}
 use Rattle.pr_model.specs.Attentions.{is_attention}
-use Rattle.pr_model.specs.Worlds.{World, set_at}
+use Rattle.pr_model.specs.Worlds.{Blocks, World, set_at}
 use Rattle.pr_grammar.specs.Operations.{is_unconditional}
 use Rattle.pr_model.specs.Commands.{attention_check, hand_out, no_sense}
 use Rattle.pr_model.proofs.Orders.{same_is}
@@ -15,16 +15,16 @@ use Rattle.pr_table.specs.Tables.{standing_of}
 use Rattle.pr_core.specs.declared.seats.Seat.{Seat}
 use Rattle.pr_core.specs.declared.state.State.{State}
 use Rattle.pr_core.specs.Seats.{seat_of, count_of, attentions_in, owner_in, told_first, Lists}
-use Rattle.pr_core.specs.States.{world_with, Shows}
+use Rattle.pr_core.specs.States.{world_with, Depicts}
 use Rattle.pr_core.specs.Admits.{PassesAttention, Senses}
 
 -- the world by its parts
-abbrev shape : Standing → List Nexus → (Nexus → List Code) → (Nexus → Option ℕ) → World
-shape s k a o = record { standing = s; known = k; attentions = a; owner = o; task = λ _. None; doubts = [] }
+abbrev shape : Blocks → Standing → List Nexus → (Nexus → List Code) → (Nexus → Option ℕ) → World
+shape b s k a o = record { medium = b; standing = s; known = k; attentions = a; owner = o; task = λ _. None; doubts = [] }
 
-pub same_world : (s : Standing) (k : List Nexus) (f g : Nexus → Option Seat) → ((m : Nexus) → attentions_in (g m) ≡ attentions_in (f m)) → ((m : Nexus) → owner_in (g m) ≡ owner_in (f m)) → world_with s f k ≡ world_with s g k
-same_world s k f g attentions owner =
-    ap (λ (a : Nexus → List Code). shape s k a (λ m. owner_in (f m))) (fun_ext (λ m. sym (attentions m))) ∙ ap (λ (o : Nexus → Option ℕ). shape s k (λ m. attentions_in (g m)) o) (fun_ext (λ m. sym (owner m)))
+pub same_world : (b : Blocks) (s : Standing) (k : List Nexus) (f g : Nexus → Option Seat) → ((m : Nexus) → attentions_in (g m) ≡ attentions_in (f m)) → ((m : Nexus) → owner_in (g m) ≡ owner_in (f m)) → world_with b s f k ≡ world_with b s g k
+same_world b s k f g attentions owner =
+    ap (λ (a : Nexus → List Code). shape b s k a (λ m. owner_in (f m))) (fun_ext (λ m. sym (attentions m))) ∙ ap (λ (o : Nexus → Option ℕ). shape b s k (λ m. attentions_in (g m)) o) (fun_ext (λ m. sym (owner m)))
 
 -- one seat that changes
 one_seat : (h : Seat → Seat) (f : Nexus → Option Seat) (n m : Nexus) → set_at f n (option_map h (f n)) m ≡ cond (same_nexus m n) (option_map h (f m)) (f m)
@@ -93,14 +93,15 @@ some_first c [] is = absurd cc
 some_first c (d ∷ cs) is = cc
 
 -- where nothing waited, it stands for the same worlds
-pub shows_still : (old new : State) (n : Nexus) (w : World) → Takes old new n → attentions_in (seat_of old.seats n) ≡ [] → Shows old w → Shows new w
-shows_still old new n w takes quiet shows =
+pub shows_still : (old new : State) (n : Nexus) (w : World) → Takes old new n → attentions_in (seat_of old.seats n) ≡ [] → Depicts old w → Depicts new w
+shows_still old new n w takes quiet depicts =
     record {
-      known = shows.known;
-      lists = takes_lists old new n shows.known takes shows.lists;
+      medium = depicts.medium;
+      known = depicts.known;
+      lists = takes_lists old new n depicts.known takes depicts.lists;
       world =
-          shows.world ∙ ap (λ (s : Standing). world_with s (seat_of old.seats) shows.known) (sym takes.standing)
-          ∙ same_world (standing_of new.table) shows.known (seat_of old.seats) (seat_of new.seats)
+          depicts.world ∙ ap (λ (s : Standing). world_with depicts.medium s (seat_of old.seats) depicts.known) (sym takes.standing)
+          ∙ same_world depicts.medium (standing_of new.table) depicts.known (seat_of old.seats) (seat_of new.seats)
           (λ m. ap attentions_in (seat_at (seat_of old.seats) (seat_of new.seats) n takes.seat m) ∙ quiet_kept (same_nexus m n) (seat_of old.seats m) (λ e. ap (λ (k : Nexus). attentions_in (seat_of old.seats k)) (same_is m n e) ∙ quiet))
           (λ m. takes_owner (seat_of old.seats) (seat_of new.seats) n takes.seat m);
     }
@@ -109,44 +110,45 @@ shows_still old new n w takes quiet shows =
 abbrev pub without : World → Nexus → List Code → World
 without w n cs = record w { attentions = set_at w.attentions n cs }
 
-pub shows_less : (old new : State) (n : Nexus) (w : World) → Takes old new n → Shows old w → Shows new (without w n (drop 1 (attentions_in (seat_of old.seats n))))
-shows_less old new n w takes shows =
+pub shows_less : (old new : State) (n : Nexus) (w : World) → Takes old new n → Depicts old w → Depicts new (without w n (drop 1 (attentions_in (seat_of old.seats n))))
+shows_less old new n w takes depicts =
     let left : List Code = drop 1 (attentions_in (seat_of old.seats n)) in
     let attentions : (m : Nexus) → attentions_in (seat_of new.seats m) ≡ set_at (λ k. attentions_in (seat_of old.seats k)) n left m =
     λ m. ap (λ (f : Nexus → Option Seat). attentions_in (f m)) takes.seat ∙ attentions_set (seat_of old.seats) n m (option_map told_first (seat_of old.seats n)) ∙ ap (λ (cs : List Code). set_at (λ k. attentions_in (seat_of old.seats k)) n cs m) (taken_list (seat_of old.seats n) takes.known) in
     record {
-      known = shows.known;
-      lists = takes_lists old new n shows.known takes shows.lists;
+      medium = depicts.medium;
+      known = depicts.known;
+      lists = takes_lists old new n depicts.known takes depicts.lists;
       world =
-          ap (λ (x : World). without x n left) shows.world
-          ∙ ap (λ (s : Standing). shape s shows.known (set_at (λ k. attentions_in (seat_of old.seats k)) n left) (λ m. owner_in (seat_of old.seats m))) (sym takes.standing)
-          ∙ ap (λ (a : Nexus → List Code). shape (standing_of new.table) shows.known a (λ m. owner_in (seat_of old.seats m))) (fun_ext (λ m. sym (attentions m)))
-          ∙ ap (λ (o : Nexus → Option ℕ). shape (standing_of new.table) shows.known (λ m. attentions_in (seat_of new.seats m)) o) (fun_ext (λ m. sym (takes_owner (seat_of old.seats) (seat_of new.seats) n takes.seat m)));
+          ap (λ (x : World). without x n left) depicts.world
+          ∙ ap (λ (s : Standing). shape depicts.medium s depicts.known (set_at (λ k. attentions_in (seat_of old.seats k)) n left) (λ m. owner_in (seat_of old.seats m))) (sym takes.standing)
+          ∙ ap (λ (a : Nexus → List Code). shape depicts.medium (standing_of new.table) depicts.known a (λ m. owner_in (seat_of old.seats m))) (fun_ext (λ m. sym (attentions m)))
+          ∙ ap (λ (o : Nexus → Option ℕ). shape depicts.medium (standing_of new.table) depicts.known (λ m. attentions_in (seat_of new.seats m)) o) (fun_ext (λ m. sym (takes_owner (seat_of old.seats) (seat_of new.seats) n takes.seat m)));
     }
 
-attentions_of : (old : State) (n : Nexus) (w : World) → Shows old w → w.attentions n ≡ attentions_in (seat_of old.seats n)
-attentions_of old n w shows = ap (λ (x : World). x.attentions n) shows.world
+attentions_of : (old : State) (n : Nexus) (w : World) → Depicts old w → w.attentions n ≡ attentions_in (seat_of old.seats n)
+attentions_of old n w depicts = ap (λ (x : World). x.attentions n) depicts.world
 
 pub low_key : (c : Code) → is_attention c ≡ true → c.key < 16
 low_key c is = grind (arith, nat_tests, is)
 
 pub attention_passes : (old new : State) (n : Nexus) (op : ℕ) → Takes old new n → None ≡ slice_get (attentions_in (seat_of old.seats n)) 0 → PassesAttention old new n op (Ok tt)
-attention_passes old new n op takes none w shows =
+attention_passes old new n op takes none w depicts =
     let quiet : attentions_in (seat_of old.seats n) ≡ [] = none_first _ none in
-    (shows_still old new n w takes quiet shows, ap (attention_check w n op) (attentions_of old n w shows ∙ quiet))
+    (shows_still old new n w takes quiet depicts, ap (attention_check w n op) (attentions_of old n w depicts ∙ quiet))
 
 pub attention_reported : (old new : State) (n : Nexus) (op : ℕ) (c : Code) → Takes old new n → is_unconditional op ≡ false → Some c ≡ slice_get (attentions_in (seat_of old.seats n)) 0 → is_attention c ≡ true → PassesAttention old new n op (Err c)
 attention_reported old new n op c takes looks first is = (
   low_key c is,
-  λ w shows. (
+  λ w depicts. (
     without w n (drop 1 (attentions_in (seat_of old.seats n))),
-    shows_less old new n w takes shows,
-    ap (attention_check w n op) (attentions_of old n w shows ∙ some_first c _ first) ∙ (rw looks refl),
+    shows_less old new n w takes depicts,
+    ap (attention_check w n op) (attentions_of old n w depicts ∙ some_first c _ first) ∙ (rw looks refl),
   ),
 )
 
 pub attention_passed_over : (s : State) (n : Nexus) (op : ℕ) → is_unconditional op ≡ true → PassesAttention s s n op (Ok tt)
-attention_passed_over s n op passes w shows = (shows, by (w.attentions n))
+attention_passed_over s n op passes w depicts = (depicts, by (w.attentions n))
   where
     by : (cs : List Code) → attention_check w n op cs ≡ None
     by [] = refl
@@ -158,19 +160,19 @@ pub senses : (old new : State) (n : Nexus) (lun : ℕ) (first : Option Code) (c 
 senses old new n lun None c takes here first known is =
     let quiet : attentions_in (seat_of old.seats n) ≡ [] = none_first _ first in (
       subst (λ (x : Code). x.key < 16) (sym is) (lit< tt),
-      λ w shows. (
+      λ w depicts. (
         w,
-        shows_still old new n w takes quiet shows,
+        shows_still old new n w takes quiet depicts,
         λ descriptor allocation.
-            rw (here, is) (ap (hand_out w n descriptor allocation) (attentions_of old n w shows ∙ quiet)),
+            rw (here, is) (ap (hand_out w n descriptor allocation) (attentions_of old n w depicts ∙ quiet)),
       ),
     )
 senses old new n lun (Some a) c takes here first known is = (
   low_key c (subst (λ (x : Code). is_attention x ≡ true) (sym is) known),
-  λ w shows. (
+  λ w depicts. (
     without w n (drop 1 (attentions_in (seat_of old.seats n))),
-    shows_less old new n w takes shows,
+    shows_less old new n w takes depicts,
     λ descriptor allocation.
-        rw (here, is) (ap (hand_out w n descriptor allocation) (attentions_of old n w shows ∙ some_first a _ first)),
+        rw (here, is) (ap (hand_out w n descriptor allocation) (attentions_of old n w depicts ∙ some_first a _ first)),
   ),
 )

@@ -10,7 +10,7 @@ use Rattle.pr_words.specs.declared.code.Code.{Code}
 use Rattle.pr_words.specs.Orders.{same_nexus}
 use Rattle.pr_grammar.specs.Standings.{Standing}
 use Rattle.pr_model.specs.Limits.{KNOWN}
-use Rattle.pr_model.specs.Worlds.{World, Task, set_at, is_known}
+use Rattle.pr_model.specs.Worlds.{Blocks, World, Task, set_at, is_known}
 use Rattle.pr_model.specs.Histories as moves
 use Rattle.pr_model.specs.Histories.{with_known, is_port, login_code}
 use Rattle.pr_model.proofs.Orders.{same_is}
@@ -19,7 +19,7 @@ use Rattle.pr_core.specs.declared.seats.Seat.{Seat}
 use Rattle.pr_core.specs.declared.seats.Seats.{Seats}
 use Rattle.pr_core.specs.declared.state.State.{State}
 use Rattle.pr_core.specs.Seats.{seat_of, count_of, attentions_in, owner_in, logged_in, logged_out, Lists}
-use Rattle.pr_core.specs.States.{Shows, owner_at}
+use Rattle.pr_core.specs.States.{Depicts, owner_at}
 use Rattle.pr_core.proofs.SlotLaws.{same_self}
 
 -- the seat of one nexus is changed
@@ -99,11 +99,13 @@ login_lists known old new n s seat count lists =
 
 -- the worlds
 
-abbrev world_of : Standing → List Nexus → (Nexus → List Code) → (Nexus → Option ℕ) → World
-world_of standing known attentions owner = record { standing = standing; known = known; attentions = attentions; owner = owner; task = λ _. None; doubts = [] }
+abbrev world_of : Blocks → Standing → List Nexus → (Nexus → List Code) → (Nexus → Option ℕ) → World
+world_of medium standing known attentions owner =
+    record { medium = medium; standing = standing; known = known; attentions = attentions; owner = owner; task = λ _. None; doubts = [] }
 
-same_world : (standing : Standing) (known : List Nexus) (a b : Nexus → List Code) (p q : Nexus → Option ℕ) → a ≡ b → p ≡ q → world_of standing known a p ≡ world_of standing known b q
-same_world standing known a b p q e f = ap (λ x. world_of standing known x p) e ∙ ap (world_of standing known b) f
+same_world : (medium : Blocks) (standing : Standing) (known : List Nexus) (a b : Nexus → List Code) (p q : Nexus → Option ℕ) → a ≡ b → p ≡ q
+    → world_of medium standing known a p ≡ world_of medium standing known b q
+same_world medium standing known a b p q e f = ap (λ x. world_of medium standing known x p) e ∙ ap (world_of medium standing known b) f
 
 pub owner_now : (who : ℕ) (n : Nexus) (o : Option Seat) → owner_in (Some (logged_in who n o)) ≡ Some who
 owner_now who n None = refl
@@ -113,16 +115,17 @@ attentions_now : (who : ℕ) (n : Nexus) (o : Option Seat) → attentions_in (So
 attentions_now who n None = refl
 attentions_now who n (Some s) = refl
 
-pub login_shows : (old new : State) (who : ℕ) (n : Nexus) → standing_of new.table ≡ standing_of old.table → seat_of new.seats ≡ set_at (seat_of old.seats) n (Some (logged_in who n (seat_of old.seats n))) → count_of new.seats ≡ (if is_some (seat_of old.seats n) then count_of old.seats else count_of old.seats + 1) → (w : World) → Shows old w → Shows new (moves.logged_in w who n)
-login_shows old new who n table seat count w shows =
+pub login_depicts : (old new : State) (who : ℕ) (n : Nexus) → standing_of new.table ≡ standing_of old.table → seat_of new.seats ≡ set_at (seat_of old.seats) n (Some (logged_in who n (seat_of old.seats n))) → count_of new.seats ≡ (if is_some (seat_of old.seats n) then count_of old.seats else count_of old.seats + 1) → (w : World) → Depicts old w → Depicts new (moves.logged_in w who n)
+login_depicts old new who n table seat count w depicts =
     let before = seat_of old.seats in
     let s = logged_in who n (before n) in
     record {
-      known = with_known shows.known n;
-      lists = login_lists shows.known old.seats new.seats n s seat count shows.lists;
+      medium = depicts.medium;
+      known = with_known depicts.known n;
+      lists = login_lists depicts.known old.seats new.seats n s seat count depicts.lists;
       world =
-          ap (λ v. moves.logged_in v who n) shows.world
-          ∙ rw (table, seat) (sym (same_world (standing_of old.table) (with_known shows.known n) _ _ _ _
+          ap (λ v. moves.logged_in v who n) depicts.world
+          ∙ rw (table, seat) (sym (same_world depicts.medium (standing_of old.table) (with_known depicts.known n) _ _ _ _
           (fun_ext (seen_same attentions_in before n (Some s) (attentions_now who n (before n))))
           (seen_changed owner_in before n (Some s) (Some who) (owner_now who n (before n)))));
     }
@@ -142,16 +145,17 @@ either false x = refl
 no_task : (n : Nexus) → set_at {A = Option Task} (λ _. None) n None ≡ (λ _. None)
 no_task n = fun_ext (λ m. either (same_nexus m n) None)
 
-pub logout_shows : (old new : State) (n : Nexus) → standing_of new.table ≡ standing_of old.table → seat_of new.seats ≡ set_at (seat_of old.seats) n (option_map logged_out (seat_of old.seats n)) → count_of new.seats ≡ count_of old.seats → (w : World) → Shows old w → Shows new (moves.logged_out w n)
-logout_shows old new n table seat count w shows =
+pub logout_depicts : (old new : State) (n : Nexus) → standing_of new.table ≡ standing_of old.table → seat_of new.seats ≡ set_at (seat_of old.seats) n (option_map logged_out (seat_of old.seats n)) → count_of new.seats ≡ count_of old.seats → (w : World) → Depicts old w → Depicts new (moves.logged_out w n)
+logout_depicts old new n table seat count w depicts =
     let before = seat_of old.seats in
     let o = option_map logged_out (before n) in
     record {
-      known = shows.known;
-      lists = record { count = shows.lists.count ∙ sym count; same = λ m. shows.lists.same m ∙ sym (rw seat (seated_same logged_out before n m)) };
+      medium = depicts.medium;
+      known = depicts.known;
+      lists = record { count = depicts.lists.count ∙ sym count; same = λ m. depicts.lists.same m ∙ sym (rw seat (seated_same logged_out before n m)) };
       world =
-          ap (λ v. moves.logged_out v n) shows.world
-          ∙ rw (table, seat, no_task n) (sym (same_world (standing_of old.table) shows.known _ _ _ _
+          ap (λ v. moves.logged_out v n) depicts.world
+          ∙ rw (table, seat, no_task n) (sym (same_world depicts.medium (standing_of old.table) depicts.known _ _ _ _
           (fun_ext (seen_same attentions_in before n o (still_waiting (before n))))
           (seen_changed owner_in before n o None (nobody_now (before n)))));
     }
@@ -167,8 +171,8 @@ not_full false false e = refl
 not_full false true (inl e) = absurd (false≢true e)
 not_full false true (inr e) = absurd (true≢false e)
 
-pub accepted_code : (s : State) (w : World) (version : ℕ) (n : Nexus) → Shows s w → version ≡ 1 → (n.port ≡ 0 → ⊥) → n.port ≤ 16 → is_some (owner_at s n) ≡ false
+pub accepted_code : (s : State) (w : World) (version : ℕ) (n : Nexus) → Depicts s w → version ≡ 1 → (n.port ≡ 0 → ⊥) → n.port ≤ 16 → is_some (owner_at s n) ≡ false
     → (is_some (seat_of s.seats n) ≡ true) ⊎ (not (nat_lt (count_of s.seats) KNOWN) ≡ false) → login_code w version n ≡ 0
-accepted_code s w version n shows one some le nobody room =
+accepted_code s w version n depicts one some le nobody room =
     let full = not_full (is_some (seat_of s.seats n)) (not (nat_lt (count_of s.seats) KNOWN)) room in
-    ap (λ v. login_code v version n) shows.world ∙ rw (one, port_by n.port some le, nobody, shows.lists.same n, shows.lists.count, full) refl
+    ap (λ v. login_code v version n) depicts.world ∙ rw (one, port_by n.port some le, nobody, depicts.lists.same n, depicts.lists.count, full) refl

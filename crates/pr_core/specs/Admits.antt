@@ -1,38 +1,19 @@
 -- What the checks of a command decide.
-use Rattle.std.specs.Prelude.{◌≡◌, ℕ, ◌-◌, ◌<◌, ◌≤◌, ◌==◌, nat_lt, not, Bool, List, [], ◌∷◌, length, take, Option, Some, None, Result, Ok, Err}
+use Rattle.std.specs.Prelude.{◌≡◌, ℕ, ◌<◌, ◌≤◌, Bool, List, ◌++◌, length, take, Option, Some, None, Result, Ok, Err}
 use Rattle.pr_words.specs.declared.nexus.Nexus.{Nexus}
 use Rattle.pr_words.specs.declared.code.Code.{Code}
 use Rattle.pr_grammar.specs.declared.cdb.Command.{Command}
 use Rattle.pr_grammar.specs.declared.cdb.Command.TheVariants.{ReserveOut as Reserve_out}
-use Rattle.pr_grammar.specs.Operations.{length_of}
-use Rattle.pr_grammar.specs.Cdbs.{operation_code, is_naca, command_of}
+use Rattle.pr_grammar.specs.Cdbs.{operation_code, command_of}
 use Rattle.pr_grammar.specs.OutLists.{list_of}
 use Rattle.pr_model.specs.Limits.{LIMIT}
 use Rattle.pr_model.specs.Acts.{ReserveOut, acted}
 use Rattle.pr_model.specs.Worlds.{World}
-use Rattle.pr_model.specs.Commands.{Answer, answer, checking, attention_check, refused_where, is_served, has_bad_field, announced, has_bad_length, has_bad_list, asks_to_persist, invalid_operation, invalid_field, list_length_error, invalid_list, checks, first_or, served, good, sense_data, request_sense, reserve_out}
+use Rattle.pr_model.specs.Commands.{Answer, answer, checking, attention_check, operation_checks, cdb_checks, data_checks, checks, first_or, served, good, sense_data, request_sense, reserve_out}
 use Rattle.pr_core.specs.declared.answers.CommandOut.{CommandOut}
 use Rattle.pr_core.specs.declared.state.State.{State}
-use Rattle.pr_core.specs.States.{Shows}
+use Rattle.pr_core.specs.States.{Depicts}
 use Rattle.pr_core.specs.Outs.{out_of}
-
--- checks by a CDB alone, and then others
-abbrev pub cdb_checks : World → ℕ → List ℕ → Command → List (Option Answer) → List (Option Answer)
-cdb_checks w op cdb command others =
-    refused_where (not (is_served op)) w invalid_operation
-    ∷ refused_where (nat_lt (length cdb) (length_of op)) w invalid_field
-    ∷ refused_where (is_naca (length_of op - 1) cdb) w invalid_field
-    ∷ refused_where (has_bad_field command) w invalid_field
-    ∷ others
-
--- checks by a command's data-out
-abbrev pub data_checks : World → Command → List ℕ → List (Option Answer)
-data_checks w command sent =
-    refused_where (not (length sent == announced command)) w list_length_error
-    ∷ refused_where (has_bad_length command) w list_length_error
-    ∷ refused_where (has_bad_list command (list_of sent)) w invalid_list
-    ∷ refused_where (asks_to_persist command (list_of sent)) w invalid_list
-    ∷ []
 
 -- what the checks leave of a PERSISTENT RESERVE OUT: a service action that there is, and a list of 24 bytes
 abbrev pub FitsCdb : Command → Type 0
@@ -47,9 +28,9 @@ FitsData command sent = Unit {0}
 abbrev pub PassesCdb : List ℕ → Result Command Code → Type 0
 PassesCdb cdb (Ok command) =
     (command ≡ command_of (operation_code cdb) cdb) × FitsCdb command
-    × ((w : World) (others : List (Option Answer)) (last : Answer) → first_or (cdb_checks w (operation_code cdb) cdb command others) last ≡ first_or others last)
+    × ((w : World) (others : List (Option Answer)) (last : Answer) → first_or (operation_checks w (operation_code cdb) ++ cdb_checks w (operation_code cdb) cdb command ++ others) last ≡ first_or others last)
 PassesCdb cdb (Err c) =
-    (c.key < 16) × ((w : World) (others : List (Option Answer)) (last : Answer) → first_or (cdb_checks w (operation_code cdb) cdb (command_of (operation_code cdb) cdb) others) last ≡ answer w (checking c))
+    (c.key < 16) × ((w : World) (others : List (Option Answer)) (last : Answer) → first_or (operation_checks w (operation_code cdb) ++ cdb_checks w (operation_code cdb) cdb (command_of (operation_code cdb) cdb) ++ others) last ≡ answer w (checking c))
 
 -- the checks of a command's data-out let it pass, or refuse it
 abbrev pub PassesData : Command → List ℕ → Result (Unit {0}) Code → Type 0
@@ -58,30 +39,30 @@ PassesData command sent (Err c) = (c.key < 16) × ((w : World) (last : Answer) �
 
 -- the check of the unit attention lets pass, or takes and reports one
 abbrev pub PassesAttention : State → State → Nexus → ℕ → Result (Unit {0}) Code → Type 0
-PassesAttention old new n op (Ok done) = (w : World) → Shows old w → Shows new w × (attention_check w n op (w.attentions n) ≡ None)
-PassesAttention old new n op (Err c) = (c.key < 16) × ((w : World) → Shows old w → (v : World) × Shows new v × (attention_check w n op (w.attentions n) ≡ Some (answer v (checking c))))
+PassesAttention old new n op (Ok done) = (w : World) → Depicts old w → Depicts new w × (attention_check w n op (w.attentions n) ≡ None)
+PassesAttention old new n op (Err c) = (c.key < 16) × ((w : World) → Depicts old w → (v : World) × Depicts new v × (attention_check w n op (w.attentions n) ≡ Some (answer v (checking c))))
 
 -- the checks of a command let it pass, or refuse it
 abbrev pub Admits : State → State → Nexus → ℕ → List ℕ → List ℕ → Result Command Code → Type 0
 Admits old new n lun cdb sent (Ok command) =
     (command ≡ command_of (operation_code cdb) cdb) × FitsCdb command × FitsData command sent
-    × ((w : World) → Shows old w → Shows new w × ((last : Answer) → first_or (checks w n lun (operation_code cdb) cdb (command_of (operation_code cdb) cdb) sent) last ≡ last))
+    × ((w : World) → Depicts old w → Depicts new w × ((last : Answer) → first_or (checks w n lun (operation_code cdb) cdb (command_of (operation_code cdb) cdb) sent) last ≡ last))
 Admits old new n lun cdb sent (Err c) =
     (c.key < 16)
-    × ((w : World) → Shows old w
-    → (v : World) × Shows new v × ((last : Answer) → first_or (checks w n lun (operation_code cdb) cdb (command_of (operation_code cdb) cdb) sent) last ≡ answer v (checking c)))
+    × ((w : World) → Depicts old w
+    → (v : World) × Depicts new v × ((last : Answer) → first_or (checks w n lun (operation_code cdb) cdb (command_of (operation_code cdb) cdb) sent) last ≡ answer v (checking c)))
 
 -- a command that no check refuses was served
 abbrev pub Serves : State → State → Nexus → ℕ → Command → List ℕ → CommandOut → List ℕ → Type 0
-Serves old new n lun command sent result buf = (w : World) → Shows old w → (v : World) × Shows new v × (served w n lun command sent ≡ answer v (out_of result buf))
+Serves old new n lun command sent result buf = (w : World) → Depicts old w → (v : World) × Depicts new v × (served w n lun command sent ≡ answer v (out_of result buf))
 
 -- what REQUEST SENSE hands out, and what is left
 abbrev pub Senses : State → State → Nexus → ℕ → Code → Type 0
 Senses old new n lun c =
     (c.key < 16)
-    × ((w : World) → Shows old w → (v : World) × Shows new v × ((descriptor : Bool) (allocation : ℕ) → request_sense w n lun descriptor allocation ≡ answer v (good (take allocation (sense_data descriptor c)))))
+    × ((w : World) → Depicts old w → (v : World) × Depicts new v × ((descriptor : Bool) (allocation : ℕ) → request_sense w n lun descriptor allocation ≡ answer v (good (take allocation (sense_data descriptor c)))))
 
 -- a PERSISTENT RESERVE OUT was served
 abbrev pub Reserves : State → State → Nexus → ReserveOut → CommandOut → Type 0
 Reserves old new n o result =
-    (w : World) → Shows old w → (v : World) × Shows new v × ((buf : List ℕ) → reserve_out w n (acted LIMIT w.standing n o) ≡ answer v (out_of result buf))
+    (w : World) → Depicts old w → (v : World) × Depicts new v × ((buf : List ℕ) → reserve_out w n (acted LIMIT w.standing n o) ≡ answer v (out_of result buf))

@@ -3,29 +3,44 @@ use Rattle.std.specs.Prelude.{◌≡◌, ℕ, Option}
 use Rattle.pr_words.specs.declared.nexus.Nexus.{Nexus}
 use Rattle.pr_model.specs.Worlds.{World}
 use Rattle.pr_model.specs.Entries.{History}
+use Rattle.pr_model.specs.Keeping.{Kept}
 use Rattle.pr_model.specs.Histories.{after, IsLegalFrom}
+use Rattle.pr_io.specs.declared.outside.Medium as media
+use Rattle.pr_io.specs.declared.outside.Disk as disks
 use Rattle.pr_core.specs.declared.target.Core.{Core}
-use Rattle.pr_core.specs.States.{Shows, owner_at, KeepsOthersAt}
+use Rattle.pr_core.specs.States.{Depicts, owner_at, KeepsOthersAt}
 
 -- crates above cite these words and don't look into them
 
-abbrev pub StandsFor : {M D : Type 0} → Core M D → World → Type 0
-StandsFor c w = Shows c.state w
+-- the world's medium has as many blocks as the core's; what stands in them isn't looked at yet
+abbrev pub StandsFor : {M D : Type 0} {gm : media.Ghosts M} {gd : disks.Ghosts D} → Core M D gm gd → World → Type 0
+StandsFor c w = (w.medium.count ≡ c.blocks) × Depicts c.state w
+
+abbrev pub medium_of : {M D : Type 0} {gm : media.Ghosts M} {gd : disks.Ghosts D} → Core M D gm gd → M
+medium_of c = c.medium
+
+abbrev pub disk_of : {M D : Type 0} {gm : media.Ghosts M} {gd : disks.Ghosts D} → Core M D gm gd → D
+disk_of c = c.disk
 
 -- the medium's number of blocks
-abbrev pub blocks_of : {M D : Type 0} → Core M D → ℕ
+abbrev pub blocks_of : {M D : Type 0} {gm : media.Ghosts M} {gd : disks.Ghosts D} → Core M D gm gd → ℕ
 blocks_of c = c.blocks
 
+-- what was kept when it was opened, which no call changes
+abbrev pub opening_of : {M D : Type 0} {gm : media.Ghosts M} {gd : disks.Ghosts D} → Core M D gm gd → Kept
+opening_of c = c.opening.kept
+
 -- the number that has a nexus logged in
-abbrev pub owner_of : {M D : Type 0} → Core M D → Nexus → Option ℕ
+abbrev pub owner_of : {M D : Type 0} {gm : media.Ghosts M} {gd : disks.Ghosts D} → Core M D gm gd → Nexus → Option ℕ
 owner_of c n = owner_at c.state n
 
 -- the nexuses that other numbers have logged in stay so
-abbrev pub KeepsOthers : {M D : Type 0} → ℕ → Core M D → Core M D → Type 0
+abbrev pub KeepsOthers : {M D : Type 0} {gm : media.Ghosts M} {gd : disks.Ghosts D} → ℕ → Core M D gm gd → Core M D gm gd → Type 0
 KeepsOthers who old new = KeepsOthersAt who old.state new.state
 
 -- the core made these entries: each world for which it stood leads by them, legally, to one for which it stands now
-pub record Extends {M D : Type 0} (old new : Core M D) (es : History) : Type 0 where
+pub record Extends {M D : Type 0} {gm : media.Ghosts M} {gd : disks.Ghosts D} (old new : Core M D gm gd) (es : History) : Type 0 where
   pub blocks : blocks_of new ≡ blocks_of old
-  pub legal : (w : World) → StandsFor old w → IsLegalFrom (blocks_of old) w es
-  pub leads : (w : World) → StandsFor old w → StandsFor new (after (blocks_of old) w es)
+  pub opening : opening_of new ≡ opening_of old
+  pub legal : (w : World) → StandsFor old w → IsLegalFrom w es
+  pub leads : (w : World) → StandsFor old w → StandsFor new (after w es)

@@ -26,7 +26,7 @@ const NO_SENSE: Code = Code {
 };
 
 impl State {
-    ghost use Rattle.pr_core.specs.States.{Makes, owner_at};
+    ghost use Rattle.pr_core.specs.States.{Enters, owner_at};
 
     /// A command of a nexus, with its data-out in the first bytes of the buffer.
     pub fn command(
@@ -41,7 +41,7 @@ impl State {
         requires cdb { 0 < length cdb.now }
         requires room { 524288 ≤ length buf.old }
         requires sent { out_len ≤ length buf.old }
-        ensures makes { (who : ℕ) → owner_at self.old nexus ≡ Some who → Makes self.old self.new (entry who nexus (Commands lun cdb.now (take out_len buf.old)) (out_of result buf.new)) }
+        ensures enters { (who : ℕ) → owner_at self.old nexus ≡ Some who → Enters self.old self.new (entry who nexus (Commands lun cdb.now (take out_len buf.old)) (out_of result buf.new)) }
         ensures owner { owner_at self.new ≡ owner_at self.old }
         ensures proper { IsProper result }
     {

@@ -9,4 +9,4 @@ mod state;
 mod target;
 
 pub use answers::{CommandOut, OpenFault};
-pub use target::Core;
+pub use target::{Core, Opening};

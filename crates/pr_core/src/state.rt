@@ -2,7 +2,7 @@ ghost use Rattle.std.specs.Prelude.{◌≡◌, ◌≤◌, Some, is_some, true, l
 ghost use Rattle.pr_words.specs.declared.nexus.Nexus.{Nexus};
 ghost use Rattle.pr_grammar.specs.Standings.{is_registered};
 ghost use Rattle.pr_model.specs.Limits.{LIMIT};
-ghost use Rattle.pr_model.specs.Worlds.{powered};
+ghost use Rattle.pr_model.specs.Worlds.{Blocks, opened};
 ghost use Rattle.pr_model.specs.Keeping.{Nothing};
 ghost use Rattle.pr_model.specs.Entries.{entry, Login, Logout, Login_code, Left};
 ghost use Rattle.pr_table.specs.Tables.{standing_of, limit_of};
@@ -27,11 +27,11 @@ pub struct State {
 }
 
 impl State {
-    ghost use Rattle.pr_core.specs.States.{Shows, Makes, owner_at, KeepsOthersAt};
+    ghost use Rattle.pr_core.specs.States.{Depicts, Enters, owner_at, KeepsOthersAt};
 
     /// Nobody is known and nothing is registered.
     pub fn new(alloc: Global) -> Result<State, AllocError>
-        ensures { IfOk result (λ s. Shows s (powered Nothing)) }
+        ensures { IfOk result (λ s. (m : Blocks) → Depicts s (opened m Nothing)) }
     {
         Ok(State {
             table: Table::new(alloc, REGISTRATIONS)?,
@@ -41,7 +41,7 @@ impl State {
 
     /// The code of the first refusal that applies, or 0.
     pub fn login(&mut self, who: u64, version: u8, nexus: Nexus) -> u8
-        ensures makes { Makes self.old self.new (entry who nexus (Login version) (Login_code result)) }
+        ensures enters { Enters self.old self.new (entry who nexus (Login version) (Login_code result)) }
         ensures accepted { result ≡ 0 → owner_at self.new nexus ≡ Some who }
         ensures refused { (result ≡ 0 → ⊥) → self.new ≡ self.old }
         ensures others { KeepsOthersAt who self.old self.new }
@@ -64,7 +64,7 @@ impl State {
 
     pub fn logout(&mut self, who: u64, nexus: Nexus)
         requires { owner_at self.old nexus ≡ Some who }
-        ensures makes { Makes self.old self.new (entry who nexus Logout Left) }
+        ensures enters { Enters self.old self.new (entry who nexus Logout Left) }
         ensures others { KeepsOthersAt who self.old self.new }
     {
         self.seats.log_out(nexus);

@@ -1,5 +1,5 @@
 ghost use Rattle.std.specs.Prelude.{◌≡◌, ◌<◌, ◌≤◌, ◌∷◌, [], Some, IfOk, IfErr, length, take};
-ghost use Rattle.pr_model.specs.Worlds.{powered};
+ghost use Rattle.pr_model.specs.Worlds.{Blocks, opened};
 ghost use Rattle.pr_model.specs.Keeping.{Nothing};
 ghost use Rattle.pr_model.specs.Entries.{entry, Login, Command, Logout, Login_code, Left};
 ghost use Rattle.pr_core.specs.Outs.{out_of, IsProper};
@@ -7,8 +7,17 @@ ghost use Rattle.pr_core.specs.Outs.{out_of, IsProper};
 use crate::answers::{CommandOut, OpenFault};
 use crate::state::State;
 use pr_io::{Disk, Medium};
+use pr_table::Kept;
 use pr_words::Nexus;
 use std::alloc::Global;
+
+/// With what a target was opened: what its disk had kept, and how often its devices had failed.
+#[derive(Drop)]
+pub struct Opening {
+    pub kept: Kept,
+    pub medium_faults: u64,
+    pub disk_faults: u64,
+}
 
 /// A target over a medium and a disk.
 #[derive(Drop)]
@@ -16,11 +25,13 @@ pub struct Core<M: Medium, D: Disk> {
     medium: M,
     disk: D,
     blocks: u64,
+    opening: Opening,
     state: State,
+    ghost size: { M.count medium ≡ blocks },
 }
 
 impl<M: Medium, D: Disk> Core<M, D> {
-    ghost use Rattle.pr_core.specs.View.{StandsFor, blocks_of, owner_of, KeepsOthers, Extends};
+    ghost use Rattle.pr_core.specs.View.{StandsFor, medium_of, disk_of, blocks_of, opening_of, owner_of, KeepsOthers, Extends};
 
     /// The target after a power-up that restored nothing. All memory is taken here: of 64
     /// registrations and of 256 known nexuses. Medium and disk aren't touched.
@@ -29,20 +40,43 @@ impl<M: Medium, D: Disk> Core<M, D> {
     ///
     /// Want of memory, with the parts handed back.
     pub fn open(alloc: Global, medium: M, disk: D) -> Result<Core<M, D>, (OpenFault, M, D)>
-        ensures stands { IfOk result (λ c. StandsFor c (powered Nothing)) }
+        ensures stands { IfOk result (λ c. (m : Blocks) → m.count ≡ M.count medium → StandsFor c (opened m (opening_of c))) }
+        ensures opening { IfOk result (λ c. opening_of c ≡ Nothing) }
         ensures blocks { IfOk result (λ c. blocks_of c ≡ M.count medium) }
+        ensures over { IfOk result (λ c. (medium_of c ≡ medium) × (disk_of c ≡ disk)) }
+        ensures counts { IfOk result (λ c. (c.opening.medium_faults ≡ M.faults medium) × (c.opening.disk_faults ≡ D.faults disk)) }
         ensures parts { IfErr result (λ e. (e.1 ≡ medium) × (e.2 ≡ disk)) }
     {
+        let Ok(state) = State::new(alloc) else {
+            return Err((OpenFault::OutOfMemory, medium, disk));
+        };
+        let opening = Opening {
+            kept: Kept::nothing(alloc),
+            medium_faults: medium.faults(),
+            disk_faults: disk.faults(),
+        };
         let blocks = medium.blocks();
-        match State::new(alloc) {
-            Ok(state) => Ok(Core {
-                medium,
-                disk,
-                blocks,
-                state,
-            }),
-            Err(_) => Err((OpenFault::OutOfMemory, medium, disk)),
-        }
+        Ok(Core {
+            medium,
+            disk,
+            blocks,
+            opening,
+            state,
+        })
+    }
+
+    /// The number of the lane or pass that has the nexus logged in.
+    pub fn owner(&self, nexus: Nexus) -> Option<u64>
+        ensures { result ≡ owner_of self.now nexus }
+    {
+        self.state.seats.owner(nexus)
+    }
+
+    /// The medium and the disk, where no command is to come any more.
+    pub fn into_parts(self) -> (M, D)
+        ensures { (result.0 ≡ medium_of self) × (result.1 ≡ disk_of self) }
+    {
+        (self.medium, self.disk)
     }
 
     /// A Login of link version `version`: 0 where it is accepted, else the first of these codes

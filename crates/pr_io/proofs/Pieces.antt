@@ -50,10 +50,10 @@ took_front a b c old piece at n p q le =
     subst (λ (w : List ℕ). Took a c w) (sym parts) (took_more a b c (take at old) (take n piece) p q)
 
 -- the invariant of a read in pieces, after one more piece
-pub took_next : (a b c : Option (List ℕ)) (f h k : ℕ) (xs ys : List ℕ) (at n : ℕ) → Took a b (take at xs) → Took b c (take n ys) → at ≤ length xs
-    → n ≤ length (take (length xs - at) (drop at xs)) → length ys ≡ length (take (length xs - at) (drop at xs)) → f ≤ h → h ≤ k
-    → record { within : at + n ≤ length (put_mid at (length xs - at) xs ys); took : Took a c (take (at + n) (put_mid at (length xs - at) xs ys)); later : f ≤ k }
-took_next a b c f h k xs ys at n p q le count same one two =
+pub took_next : (a b c : Option (List ℕ)) (xs ys : List ℕ) (at n : ℕ) → Took a b (take at xs) → Took b c (take n ys) → at ≤ length xs
+    → n ≤ length (take (length xs - at) (drop at xs)) → length ys ≡ length (take (length xs - at) (drop at xs))
+    → record { within : at + n ≤ length (put_mid at (length xs - at) xs ys); took : Took a c (take (at + n) (put_mid at (length xs - at) xs ys)) }
+took_next a b c xs ys at n p q le count same =
     let size : length (take at xs) ≡ at = omega (arith, length-take at xs) in
     let room : length ys ≡ length xs - at = omega (arith, same, length-take (length xs - at) (drop at xs), length-drop at xs) in
     let less : n ≤ length ys = omega (arith, same, count) in
@@ -62,5 +62,4 @@ took_next a b c f h k xs ys at n p q le count same one two =
     record {
       within = omega (arith, length-append (take at xs) (ys ++ post), length-append ys post, size, less);
       took = took_front a b c xs (ys ++ post) at n p (subst (λ (w : List ℕ). Took b c w) (sym some) q) le;
-      later = omega arith;
     }

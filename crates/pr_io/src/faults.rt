@@ -1,5 +1,5 @@
 ghost use Rattle.std.specs.Prelude.{◌≡◌, ◌≤◌};
-ghost use Rattle.pr_io.specs.Causes.{Rose};
+ghost use Rattle.pr_io.specs.Causes.{next_fault};
 
 use crate::Failed;
 
@@ -19,7 +19,7 @@ impl Faults {
     /// Counts one fault more, and hands out the answer that it excuses.
     pub(crate) fn raise(&mut self) -> Failed
         ensures later { self.old.count ≤ self.new.count }
-        ensures rose { Rose self.old.count self.new.count }
+        ensures once { self.new.count ≡ next_fault self.old.count }
     {
         self.count = self.count.saturating_add(1);
         Failed

@@ -1,4 +1,4 @@
-ghost use Rattle.std.specs.Prelude.{◌≡◌, ◌≤◌, ◌<◌, ◌++◌, None, length, take, slice_range, IfOk, IsOk, OnOk, OnErr};
+ghost use Rattle.std.specs.Prelude.{◌≡◌, ◌≤◌, ◌<◌, ◌++◌, None, length, take, slice_range, IfOk, OnOk, OnErr};
 ghost use Rattle.std.specs.Io.KnownBytes.{Consumes, IsAtEnd, Keeps, ReadConsumes, WriteAppends};
 ghost use Rattle.pr_io.specs.Ahead.{left_of};
 ghost use Rattle.pr_io.specs.Causes.{HasCause};
@@ -59,7 +59,6 @@ impl<R: Read + Drop> StdinSource<R> {
         ensures kept { OnErr result (Keeps (R.remaining self.old.reader) (R.remaining self.new.reader)) }
         ensures none { OnErr result (self.new.to ≡ 0) }
         ensures cause { HasCause self.old.faults.count self.new.faults.count result }
-        ensures calm { IsOk result → self.new.faults.count ≡ self.old.faults.count }
     {
         self.from = 0;
         self.to = 0;
@@ -93,7 +92,6 @@ impl<R: Read + Drop> Source for StdinSource<R> {
         ensures bytes { MovesInto None None result buf.new }
         ensures end { IfOk result (λ n. HasEnded None n (length buf.old)) }
         ensures cause { HasCause self.old.faults.count self.new.faults.count result }
-        ensures calm { IsOk result → self.new.faults.count ≡ self.old.faults.count }
         ensures told { ReadConsumes (left_of self.old.ahead.items self.old.from self.old.to (R.remaining self.old.reader)) (left_of self.new.ahead.items self.new.from self.new.to (R.remaining self.new.reader)) result buf.new }
     {
         if self.from < self.to || buf.is_empty() {
@@ -140,7 +138,6 @@ impl<W: Write + Drop> Sink for StdoutSink<W> {
         ensures some { IfOk result (λ n. 0 < length piece.now → 0 < n) }
         ensures bytes { Reaches None None result piece.now }
         ensures cause { HasCause self.old.faults.count self.new.faults.count result }
-        ensures calm { IsOk result → self.new.faults.count ≡ self.old.faults.count }
         ensures told { WriteAppends (W.contents self.old.writer) (W.contents self.new.writer) result piece.now }
     {
         let n = write_some(&mut self.writer, piece, &mut self.faults)?;
@@ -156,7 +153,6 @@ fn read_some<R: Read>(reader: &mut R, buf: &mut [u8], faults: &mut Faults) -> Re
     ensures count { IfOk result (λ n. n ≤ length buf.old) }
     ensures told { ReadConsumes (R.remaining reader.old) (R.remaining reader.new) result buf.new }
     ensures cause { HasCause faults.old.count faults.new.count result }
-    ensures calm { IsOk result → faults.new.count ≡ faults.old.count }
 {
     for _ in 0..TRIES {
         match reader.read(buf) {
@@ -176,7 +172,6 @@ fn write_some<W: Write>(writer: &mut W, piece: &[u8], faults: &mut Faults) -> Re
     ensures count { IfOk result (λ n. n ≤ length piece.now) }
     ensures told { WriteAppends (W.contents writer.old) (W.contents writer.new) result piece.now }
     ensures cause { HasCause faults.old.count faults.new.count result }
-    ensures calm { IsOk result → faults.new.count ≡ faults.old.count }
 {
     for _ in 0..TRIES {
         match writer.write(piece) {

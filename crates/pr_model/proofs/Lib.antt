@@ -19,3 +19,4 @@ pub mod SameKept
 pub mod Refusals
 pub mod Reaching
 pub mod Refused
+pub mod Sizes

@@ -10,7 +10,7 @@ use Rattle.pr_grammar.specs.OutLists.{list_of}
 use Rattle.pr_model.specs.Acts.{Verdict, Good, Conflict, Bad}
 use Rattle.pr_model.specs.Worlds.{World}
 use Rattle.pr_model.specs.Commands.{Answer, answer, good, checking, sense_data, unsupported_unit, invalid_operation, invalid_field, list_length_error, invalid_list, is_elsewhere, is_served, has_bad_field, announced, has_bad_length, has_bad_list, asks_to_persist, refused_where, attention_check, checks, first_or, by_verdict, hand_out, served, answered, answered_by}
-use Rattle.pr_model.specs.Laws.{IsRefused, ChangesNothing, HasOneOutcome}
+use Rattle.pr_model.specs.Laws.{IsRefused, RefusalsChangeLittle, HasOneOutcome}
 
 -- a check's answer leaves the world as it is, or is that of the check of the attention
 abbrev Leaves : World → Option Answer → Option Answer → Type 0
@@ -92,9 +92,9 @@ refused_by : (w : World) (attention : Option Answer) (a last : Answer) → (a �
 refused_by w attention a last (inl same) leaves refused = inl (ap (λ (x : Answer). x.world) same ∙ leaves (subst (λ (x : Answer). IsRefused x.out) same refused))
 refused_by w attention a last (inr how) leaves refused = how
 
-pub changes_nothing : ChangesNothing
+pub refusals_change_little : RefusalsChangeLittle
 unfolding answered
-changes_nothing blocks w n lun cdb sent refused =
+refusals_change_little w n lun cdb sent refused =
     let op : ℕ = operation_code cdb in
     let command : Command = command_of op cdb in
     refused_by w (attention_check w n op (w.attentions n)) (answered_by w n lun op cdb command sent) (served w n lun command sent)
@@ -102,4 +102,4 @@ changes_nothing blocks w n lun cdb sent refused =
     (served_leaves w n lun command sent) refused
 
 pub one_outcome : HasOneOutcome
-one_outcome blocks w who n lun cdb sent has idle = ((answered blocks w n lun cdb sent).out, (has, idle, refl), λ other may. may.2)
+one_outcome w who n lun cdb sent has idle = ((answered w n lun cdb sent).out, (has, idle, refl), λ other may. may.2)

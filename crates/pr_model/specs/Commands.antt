@@ -1,5 +1,5 @@
 -- What a command is answered, and the world that it leaves (SPC-4).
-use Rattle.std.specs.Prelude.{ℕ, ◌-◌, ◌==◌, ◌&&◌, ◌||◌, nat_lt, not, Bool, true, false, List, [], ◌∷◌, length, take, Option, Some, None, is_some, if◌then◌else◌}
+use Rattle.std.specs.Prelude.{ℕ, ◌-◌, ◌==◌, ◌&&◌, ◌||◌, nat_lt, not, Bool, true, false, List, [], ◌∷◌, ◌++◌, length, take, Option, Some, None, is_some, if◌then◌else◌}
 use Rattle.pr_words.specs.declared.nexus.Nexus.{Nexus}
 use Rattle.pr_words.specs.declared.code.Code.{Code}
 use Rattle.pr_words.specs.declared.code.Status.TheVariants as status
@@ -119,20 +119,39 @@ abbrev pub asks_to_persist : Command → OutList → Bool
 asks_to_persist (ReserveOut action scope kind list) l = l.aptpl
 asks_to_persist _ l = false
 
--- the order of refusals (this project's own): logical unit, unit attention, operation code, CDB fields, data length, parameter list
-abbrev pub checks : World → Nexus → ℕ → ℕ → List ℕ → Command → List ℕ → List (Option Answer)
-checks w n lun op cdb command sent =
-    refused_where (is_elsewhere lun op) w unsupported_unit
-    ∷ attention_check w n op (w.attentions n)
-    ∷ refused_where (not (is_served op)) w invalid_operation
-    ∷ refused_where (nat_lt (length cdb) (length_of op)) w invalid_field
+-- by the logical unit, and by what waits to be reported
+abbrev pub unit_checks : World → Nexus → ℕ → ℕ → List (Option Answer)
+unit_checks w n lun op = refused_where (is_elsewhere lun op) w unsupported_unit ∷ attention_check w n op (w.attentions n) ∷ []
+
+-- by the operation code
+abbrev pub operation_checks : World → ℕ → List (Option Answer)
+operation_checks w op = refused_where (not (is_served op)) w invalid_operation ∷ []
+
+-- by the reservation: none, since no command that moves blocks is served yet
+abbrev pub conflict_checks : World → Nexus → ℕ → List (Option Answer)
+conflict_checks w n op = []
+
+-- by the CDB: its length, NACA, and the command's own fields
+abbrev pub cdb_checks : World → ℕ → List ℕ → Command → List (Option Answer)
+cdb_checks w op cdb command =
+    refused_where (nat_lt (length cdb) (length_of op)) w invalid_field
     ∷ refused_where (is_naca (length_of op - 1) cdb) w invalid_field
     ∷ refused_where (has_bad_field command) w invalid_field
-    ∷ refused_where (not (length sent == announced command)) w list_length_error
+    ∷ []
+
+-- by the data-out: its length, and what the parameter list asks for
+abbrev pub data_checks : World → Command → List ℕ → List (Option Answer)
+data_checks w command sent =
+    refused_where (not (length sent == announced command)) w list_length_error
     ∷ refused_where (has_bad_length command) w list_length_error
     ∷ refused_where (has_bad_list command (list_of sent)) w invalid_list
     ∷ refused_where (asks_to_persist command (list_of sent)) w invalid_list
     ∷ []
+
+-- the order of refusals (this project's own)
+abbrev pub checks : World → Nexus → ℕ → ℕ → List ℕ → Command → List ℕ → List (Option Answer)
+checks w n lun op cdb command sent =
+    unit_checks w n lun op ++ operation_checks w op ++ conflict_checks w n op ++ cdb_checks w op cdb command ++ data_checks w command sent
 
 -- the first check that applies gives the answer
 abbrev pub first_or : List (Option Answer) → Answer → Answer
@@ -188,6 +207,5 @@ served w n lun _ sent = answer w (checking invalid_operation)
 abbrev pub answered_by : World → Nexus → ℕ → ℕ → List ℕ → Command → List ℕ → Answer
 answered_by w n lun op cdb command sent = first_or (checks w n lun op cdb command sent) (served w n lun command sent)
 
--- the medium has so many blocks
-unfoldable pub answered : ℕ → World → Nexus → ℕ → List ℕ → List ℕ → Answer
-answered blocks w n lun cdb sent = answered_by w n lun (operation_code cdb) cdb (command_of (operation_code cdb) cdb) sent
+unfoldable pub answered : World → Nexus → ℕ → List ℕ → List ℕ → Answer
+answered w n lun cdb sent = answered_by w n lun (operation_code cdb) cdb (command_of (operation_code cdb) cdb) sent

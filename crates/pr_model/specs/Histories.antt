@@ -1,9 +1,9 @@
--- Which histories are legal, and the world after each. The medium's number of blocks is an argument throughout.
+-- Which histories are legal, and the world after each.
 use Rattle.std.specs.Prelude.{◌≡◌, ℕ, ◌==◌, ◌&&◌, nat_lt, not, Bool, List, [], ◌∷◌, ◌++◌, length, Some, None, is_some, if◌then◌else◌}
 use Rattle.pr_words.specs.declared.nexus.Nexus.{Nexus}
 use Rattle.pr_model.specs.Limits.{KNOWN}
 use Rattle.pr_model.specs.Keeping.{Kept}
-use Rattle.pr_model.specs.Worlds.{World, powered, set_at, is_known}
+use Rattle.pr_model.specs.Worlds.{Blocks, World, opened, set_at, is_known}
 use Rattle.pr_model.specs.Entries.{Act, Login, Command, Step, Logout, Power, Out, Login_code, Left, Restored, Entry, History}
 use Rattle.pr_model.specs.Commands.{answered}
 
@@ -30,46 +30,45 @@ abbrev pub logged_out : World → Nexus → World
 logged_out w n = record w { owner = set_at w.owner n None; task = set_at w.task n None }
 
 -- the world after an act with its outcome
-abbrev pub moved_by : ℕ → World → ℕ → Nexus → Act → Out → World
-moved_by blocks w who n (Login version) out = if login_code w version n == 0 then logged_in w who n else w
-moved_by blocks w who n (Command lun cdb data_out) out = (answered blocks w n lun cdb data_out).world
-moved_by blocks w who n (Step block) out = w
-moved_by blocks w who n Logout out = logged_out w n
-moved_by blocks w who n Power (Restored value) = powered value
-moved_by blocks w who n Power _ = w
+abbrev pub moved_by : World → ℕ → Nexus → Act → Out → World
+moved_by w who n (Login version) out = if login_code w version n == 0 then logged_in w who n else w
+moved_by w who n (Command lun cdb data_out) out = (answered w n lun cdb data_out).world
+moved_by w who n (Step block) out = w
+moved_by w who n Logout out = logged_out w n
+moved_by w who n Power (Restored value) = opened w.medium value
+moved_by w who n Power _ = w
 
-abbrev pub moved : ℕ → World → Entry → World
-moved blocks w e = moved_by blocks w e.who e.nexus e.act e.out
+abbrev pub moved : World → Entry → World
+moved w e = moved_by w e.who e.nexus e.act e.out
 
 -- this number has the nexus logged in
 abbrev pub Has : World → ℕ → Nexus → Type 0
 Has w who n = w.owner n ≡ Some who
 
 -- which outcomes an act may have; steps and power-ups aren't legal yet
-abbrev pub MayEnd : ℕ → World → ℕ → Nexus → Act → Out → Type 0
-MayEnd blocks w who n (Login version) out = out ≡ Login_code (login_code w version n)
-MayEnd blocks w who n (Command lun cdb data_out) out =
-    Has w who n × (w.task n ≡ None) × (out ≡ (answered blocks w n lun cdb data_out).out)
-MayEnd blocks w who n (Step block) out = ⊥
-MayEnd blocks w who n Logout out = Has w who n × (out ≡ Left)
-MayEnd blocks w who n Power out = ⊥
+abbrev pub MayEnd : World → ℕ → Nexus → Act → Out → Type 0
+MayEnd w who n (Login version) out = out ≡ Login_code (login_code w version n)
+MayEnd w who n (Command lun cdb data_out) out =
+    Has w who n × (w.task n ≡ None) × (out ≡ (answered w n lun cdb data_out).out)
+MayEnd w who n (Step block) out = ⊥
+MayEnd w who n Logout out = Has w who n × (out ≡ Left)
+MayEnd w who n Power out = ⊥
 
-abbrev pub MayFollow : ℕ → World → Entry → Type 0
-MayFollow blocks w e = MayEnd blocks w e.who e.nexus e.act e.out
+abbrev pub MayFollow : World → Entry → Type 0
+MayFollow w e = MayEnd w e.who e.nexus e.act e.out
 
--- the entry may follow, and leads to the next world
-pub record Moves (blocks : ℕ) (w : World) (e : Entry) (next : World) : Type 0 where
-  pub may : MayFollow blocks w e
-  pub leads : next ≡ moved blocks w e
+abbrev pub after : World → History → World
+after w [] = w
+after w (e ∷ es) = after (moved w e) es
 
-abbrev pub after : ℕ → World → History → World
-after blocks w [] = w
-after blocks w (e ∷ es) = after blocks (moved blocks w e) es
+abbrev pub IsLegalFrom : World → History → Type 0
+IsLegalFrom w [] = Unit {0}
+IsLegalFrom w (e ∷ es) = MayFollow w e × IsLegalFrom (moved w e) es
 
-abbrev pub IsLegalFrom : ℕ → World → History → Type 0
-IsLegalFrom blocks w [] = Unit {0}
-IsLegalFrom blocks w (e ∷ es) = MayFollow blocks w e × IsLegalFrom blocks (moved blocks w e) es
+-- legal from the opening, over a medium, with what was kept
+abbrev pub IsLegal : Blocks → Kept → History → Type 0
+IsLegal medium kept h = IsLegalFrom (opened medium kept) h
 
--- legal from what was restored at the opening
-abbrev pub IsLegal : ℕ → Kept → History → Type 0
-IsLegal blocks opening h = IsLegalFrom blocks (powered opening) h
+-- legal over every medium of so many blocks, whatever stands on it
+abbrev pub IsLegalOver : ℕ → Kept → History → Type 0
+IsLegalOver count kept h = (medium : Blocks) → medium.count ≡ count → IsLegal medium kept h

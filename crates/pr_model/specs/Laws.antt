@@ -11,9 +11,9 @@ use Rattle.pr_grammar.specs.Standings.{Standing, is_holder, is_registered}
 use Rattle.pr_model.specs.Conflicts.{is_forbidden}
 use Rattle.pr_model.specs.Limits.{HELD}
 use Rattle.pr_model.specs.Worlds.{World}
-use Rattle.pr_model.specs.Entries.{Command, Out, Ended, entry}
+use Rattle.pr_model.specs.Entries.{Command, Out, Login_code, Ended, Started, Wrote, Read, Done, Aborted, Fault, Left, Restored, Entry, entry}
 use Rattle.pr_model.specs.Commands.{attention_check, answered}
-use Rattle.pr_model.specs.Histories.{Has, MayFollow}
+use Rattle.pr_model.specs.Histories.{Has, MayFollow, moved}
 use Rattle.pr_model.specs.Lanes.{Lane, arrived}
 use Rattle.pr_model.specs.Runs.{Deed, TakesTurn}
 
@@ -21,22 +21,39 @@ use Rattle.pr_model.specs.Runs.{Deed, TakesTurn}
 abbrev pub BytesWait : Type 0
 BytesWait = (who : ℕ) (l m : Lane) (d : Deed) (more : List ℕ) → HELD ≤ length l.bytes → TakesTurn who l d m → TakesTurn who (arrived l more) d (arrived m more)
 
--- RESERVATION CONFLICT or CHECK CONDITION
+-- which outcomes of a command are refusals: RESERVATION CONFLICT and CHECK CONDITION (SAM-5, status codes)
 abbrev pub IsRefused : Out → Type 0
 IsRefused (Ended status.Good sense data_in) = ⊥
-IsRefused _ = Unit {0}
+IsRefused (Ended status.CheckCondition sense data_in) = Unit {0}
+IsRefused (Ended status.ReservationConflict sense data_in) = Unit {0}
+IsRefused (Ended status.TaskAborted sense data_in) = ⊥
+IsRefused (Login_code code) = ⊥
+IsRefused Started = ⊥
+IsRefused Wrote = ⊥
+IsRefused (Read block) = ⊥
+IsRefused Done = ⊥
+IsRefused Aborted = ⊥
+IsRefused (Fault code) = ⊥
+IsRefused Left = ⊥
+IsRefused (Restored value) = ⊥
 
--- a refused command changes nothing, but that a unit attention which is reported goes
-abbrev pub ChangesNothing : Type 0
-ChangesNothing =
-    (blocks : ℕ) (w : World) (n : Nexus) (lun : ℕ) (cdb sent : List ℕ) → IsRefused (answered blocks w n lun cdb sent).out
-    → ((answered blocks w n lun cdb sent).world ≡ w) ⊎ (attention_check w n (operation_code cdb) (w.attentions n) ≡ Some (answered blocks w n lun cdb sent))
+-- a refused command leaves the world as it is, but that a unit attention which is reported goes: then the answer is that of the check of the attention
+abbrev pub RefusalsChangeLittle : Type 0
+RefusalsChangeLittle =
+    (w : World) (n : Nexus) (lun : ℕ) (cdb sent : List ℕ) → IsRefused (answered w n lun cdb sent).out
+    → ((answered w n lun cdb sent).world ≡ w)
+    ⊎ (attention_check w n (operation_code cdb) (w.attentions n) ≡ Some (answered w n lun cdb sent))
 
 -- of a command of a nexus that is logged in and has no task there is exactly one outcome
 abbrev pub HasOneOutcome : Type 0
 HasOneOutcome =
-    (blocks : ℕ) (w : World) (who : ℕ) (n : Nexus) (lun : ℕ) (cdb sent : List ℕ) → Has w who n → w.task n ≡ None
-    → (out : Out) × MayFollow blocks w (entry who n (Command lun cdb sent) out) × ((other : Out) → MayFollow blocks w (entry who n (Command lun cdb sent) other) → other ≡ out)
+    (w : World) (who : ℕ) (n : Nexus) (lun : ℕ) (cdb sent : List ℕ) → Has w who n → w.task n ≡ None
+    → (out : Out) × MayFollow w (entry who n (Command lun cdb sent) out)
+    × ((other : Out) → MayFollow w (entry who n (Command lun cdb sent) other) → other ≡ out)
+
+-- no entry changes how many blocks the medium has
+abbrev pub KeepsSize : Type 0
+KeepsSize = (w : World) (e : Entry) → (moved w e).medium.count ≡ w.medium.count
 
 -- no command of a reservation holder conflicts
 abbrev pub HoldersPass : Type 0

@@ -4,6 +4,7 @@ use Rattle.std.specs.List.{list_any}
 use Rattle.pr_words.specs.declared.nexus.Nexus.{Nexus}
 use Rattle.pr_words.specs.declared.nexus.Pair.{Pair}
 use Rattle.pr_words.specs.declared.code.Code.{Code}
+use Rattle.pr_words.specs.declared.task.Way.{Way}
 use Rattle.pr_words.specs.declared.reservation.Reservation.{Reservation}
 use Rattle.pr_words.specs.declared.reservation.Reservation.TheVariants.{Free}
 use Rattle.pr_words.specs.Orders.{same_nexus}
@@ -11,9 +12,10 @@ use Rattle.pr_grammar.specs.Standings.{Standing}
 use Rattle.pr_model.specs.Attentions.{powered_on}
 use Rattle.pr_model.specs.Keeping.{Kept, Nothing, Some_kept}
 
-pub data Way : Type 0 where
-  Reads : Way
-  Writes : Way
+-- what stands on the medium: how many logical blocks it has, and the 512 bytes of each; None where nothing is known of them (SBC-3, logical blocks)
+pub record Blocks : Type 0 where
+  pub count : ℕ
+  pub at : ℕ → Option (List ℕ)
 
 -- a READ or WRITE under way: its first block, its number of blocks, and how many of them were moved
 pub record Task : Type 0 where
@@ -23,8 +25,9 @@ pub record Task : Type 0 where
   pub done : ℕ
   pub aborted : Bool
 
--- the known nexuses stand in the order in which they became known; an owner is the number of the lane or pass that has a nexus logged in; doubts are what the file may hold instead of what is kept
+-- the medium's blocks; the registrations and the reservation; the known nexuses in the order in which they became known; an owner is the number of the lane or pass that has a nexus logged in; doubts are what the file may hold instead of what is kept
 pub record World : Type 0 where
+  pub medium : Blocks
   pub standing : Standing
   pub known : List Nexus
   pub attentions : Nexus → List Code
@@ -39,18 +42,20 @@ set_at f n v = λ m. if same_nexus m n then v else f m
 abbrev pub is_known : List Nexus → Nexus → Bool
 is_known known n = list_any (same_nexus n) known
 
-abbrev pub powered_with : List Pair → Reservation → Bool → World
-powered_with pairs reservation preserve =
+-- registrations and reservation after a power-up: what was kept, and generation 0 (SPC-4, preserving persistent reservations)
+abbrev pub restored : Kept → Standing
+restored Nothing = record { pairs = []; reservation = Free; generation = 0; preserve = false }
+restored (Some_kept pairs reservation) = record { pairs = pairs; reservation = reservation; generation = 0; preserve = true }
+
+-- the world after a power-up, over a medium: nobody is logged in, and each nexus has the attention of the power-up (SAM-5, power on)
+abbrev pub opened : Blocks → Kept → World
+opened medium kept =
     record {
-      standing = record { pairs = pairs; reservation = reservation; generation = 0; preserve = preserve };
-      known = map (λ (p : Pair). p.nexus) pairs;
+      medium = medium;
+      standing = restored kept;
+      known = map (λ (p : Pair). p.nexus) (restored kept).pairs;
       attentions = λ _. powered_on ∷ [];
       owner = λ _. None;
       task = λ _. None;
       doubts = [];
     }
-
--- the world after a power-up: what was kept, generation 0, nobody logged in, and the attention of the power-up in every list
-abbrev pub powered : Kept → World
-powered Nothing = powered_with [] Free false
-powered (Some_kept pairs reservation) = powered_with pairs reservation true

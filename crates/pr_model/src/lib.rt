@@ -13,7 +13,7 @@ ghost use Rattle.pr_model.specs.Acts.{Acted, Good, Bad, ReserveOut, acted, preem
 ghost use Rattle.pr_model.specs.Cases.{Case, Applies, Preempts};
 ghost use Rattle.pr_model.specs.Effects.{Rule, IsRule, Acts};
 ghost use Rattle.pr_model.specs.Attentions.{is_attention};
-ghost use Rattle.pr_model.specs.Laws.{BytesWait, ChangesNothing, HasOneOutcome, HoldersPass, RegistrantsPass, FreePass};
+ghost use Rattle.pr_model.specs.Laws.{BytesWait, HasOneOutcome, KeepsSize, RefusalsChangeLittle, HoldersPass, RegistrantsPass, FreePass};
 ghost use Rattle.pr_model.specs.Keeping.{Kept, kept, same_kept, keeps_by, looks_same, same_reservation};
 
 /// Of each PREEMPT exactly one case applies, and it has exactly one answer, which `preempt` is.
@@ -70,14 +70,19 @@ pub fn whom_an_act_reaches()
     ensures refusal { (limit : ℕ) (s : Standing) (n : Nexus) (o : ReserveOut) (c : Code) → (acted limit s n o).verdict ≡ Bad c → c.key ≡ 5 }
 {}
 
-/// A refused command changes nothing, but that a unit attention which is reported goes.
-pub fn a_refused_command_changes_nothing()
-    ensures { ChangesNothing }
+/// A refused command leaves the world as it is, but that a unit attention which is reported goes.
+pub fn a_refused_command_changes_little()
+    ensures { RefusalsChangeLittle }
 {}
 
 /// Of a command there is exactly one outcome.
 pub fn a_command_has_one_outcome()
     ensures { HasOneOutcome }
+{}
+
+/// No entry changes how many blocks the medium has.
+pub fn entries_keep_the_size()
+    ensures { KeepsSize }
 {}
 
 /// Bytes that wait behind a full buffer change no turn: they go on waiting behind what is left.

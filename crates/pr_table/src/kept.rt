@@ -1,7 +1,9 @@
 ghost use Rattle.std.specs.Prelude.{◌≡◌};
+ghost use Rattle.pr_model.specs.Keeping.{Nothing};
 ghost use Rattle.pr_table.specs.Kepts.{reservation_of};
 
 use pr_words::{Kind, Nexus, Pair, Reservation};
+use std::alloc::Global;
 use std::marker::Model;
 
 /// What outlives a power loss (SPC-4, preserving persistent reservations): nothing where `on` is
@@ -15,6 +17,20 @@ pub struct Kept {
     pub kind: Option<Kind>,
     pub holder: Option<Nexus>,
     pub pairs: Vec<Pair>,
+}
+
+impl Kept {
+    /// Nothing outlives.
+    pub fn nothing(alloc: Global) -> Kept
+        ensures { result ≡ Nothing }
+    {
+        Kept {
+            on: false,
+            kind: None,
+            holder: None,
+            pairs: Vec::new(alloc),
+        }
+    }
 }
 
 impl Model for Kept {

@@ -42,7 +42,7 @@ impl Table {
     ghost use Rattle.pr_model.specs.Registrants.{IsAscending, IsWellFormed};
     ghost use Rattle.pr_model.specs.Acts.{acted, key_or_zero, is_own, register, reserve, release, clear, removing, preempt, taking, is_holders_key};
     ghost use Rattle.pr_model.specs.Keeping.{keeps_by, looks_same, same_reservation};
-    ghost use Rattle.pr_model.specs.Worlds.{powered};
+    ghost use Rattle.pr_model.specs.Worlds.{restored};
     ghost use Rattle.pr_table.specs.Tables.{standing_of, limit_of, removed_of};
     ghost use Rattle.pr_table.specs.Told.{asked, Does, Keeps, Aborts};
     ghost use Rattle.pr_table.specs.Goes.{goes};
@@ -73,8 +73,8 @@ impl Table {
     ///
     /// Want of memory alone.
     pub fn from_kept(alloc: Global, kept: &Kept, limit: usize) -> Result<Table, AllocError>
-        requires { IsWellFormed limit (powered kept.now).standing }
-        ensures { IfOk result (λ t. (limit_of t ≡ limit) × (standing_of t ≡ (powered kept.now).standing) × (removed_of t ≡ [])) }
+        requires { IsWellFormed limit (restored kept.now) }
+        ensures { IfOk result (λ t. (limit_of t ≡ limit) × (standing_of t ≡ restored kept.now) × (removed_of t ≡ [])) }
     {
         let mut table = Table::new(alloc, limit)?;
         if kept.on {

@@ -7,6 +7,8 @@ use Rattle.std.proofs.lemmas.Bool.{ltb-false, ltb-true}
 use Rattle.pr_words.specs.declared.nexus.Nexus.{Nexus}
 use Rattle.pr_grammar.specs.Bodies.{command_cdb, command_data, is_command_body}
 use Rattle.pr_model.specs.Entries.{entry, Command}
+use Rattle.pr_io.specs.declared.outside.Medium as media
+use Rattle.pr_io.specs.declared.outside.Disk as disks
 use Rattle.pr_core.specs.declared.target.Core.{Core}
 use Rattle.pr_core.specs.declared.answers.CommandOut.{CommandOut}
 use Rattle.pr_core.specs.View.{Extends}
@@ -47,7 +49,7 @@ command_small front more first is =
     omega (arith, first, ltb-true _ _ small)
 
 -- a command that was run on the parts of a buffer is the one of the frame's body in it
-pub command_entry : {M D : Type 0} (old new : Core M D) (who lun body : ℕ) (n : Nexus) (work front data_out buf : List ℕ) (out : CommandOut)
+pub command_entry : {M D : Type 0} {gm : media.Ghosts M} {gd : disks.Ghosts D} (old new : Core M D gm gd) (who lun body : ℕ) (n : Nexus) (work front data_out buf : List ℕ) (out : CommandOut)
     → front ≡ take 20 work → data_out ≡ drop 20 work → is_command_body (take body work) ≡ true → length work ≡ 524320 → body ≤ 524308
     → Extends old new (entry who n (Command lun (slice_range front 4 (4 + slice_index front 0)) (take (body - 20) data_out)) (out_of out buf) ∷ [])
     → Extends old new (entry who n (Command lun (command_cdb (take body work)) (command_data (take body work))) (out_of out (drop 20 (front ++ buf))) ∷ [])

@@ -8,6 +8,8 @@ use Rattle.pr_words.specs.declared.nexus.Nexus.{Nexus}
 use Rattle.pr_grammar.specs.Schedules.{Record, Arrival, Step_of, Close_of, IsRecord, lane_of}
 use Rattle.pr_model.specs.Lanes.{Lane, Phase, Fresh, In, Dead, fresh}
 use Rattle.pr_model.specs.Runs.{Deed, ActsOn}
+use Rattle.pr_io.specs.declared.outside.Medium as media
+use Rattle.pr_io.specs.declared.outside.Disk as disks
 use Rattle.pr_core.specs.declared.target.Core.{Core}
 use Rattle.pr_core.specs.View.{owner_of, KeepsOthers}
 use Rattle.pr_tool.specs.declared.session.Session.{Session}
@@ -31,20 +33,20 @@ get_set_other (x ∷ xs) (suc i) (suc j) y other = get_set_other xs i j y (λ e.
 some_is : {X : Type 0} (x y : X) → Some x ≡ Some y → x ≡ y
 some_is x y is = cc
 
-keeps_agrees : {M D : Type 0} (who other : ℕ) (old new : Core M D) (p : Phase) → KeepsOthers who old new → (other ≡ who → ⊥) → Agrees p other old → Agrees p other new
+keeps_agrees : {M D : Type 0} {gm : media.Ghosts M} {gd : disks.Ghosts D} (who other : ℕ) (old new : Core M D gm gd) (p : Phase) → KeepsOthers who old new → (other ≡ who → ⊥) → Agrees p other old → Agrees p other new
 keeps_agrees who other old new Fresh keeps apart agrees = tt
 keeps_agrees who other old new (In n) keeps apart agrees = keeps other n apart agrees
 keeps_agrees who other old new Dead keeps apart agrees = tt
 
 -- a core that kept the owners of the other nexuses twice kept them
-pub keeps_more : {M D : Type 0} (who : ℕ) (a b c : Core M D) → KeepsOthers who a b → KeepsOthers who b c → KeepsOthers who a c
+pub keeps_more : {M D : Type 0} {gm : media.Ghosts M} {gd : disks.Ghosts D} (who : ℕ) (a b c : Core M D gm gd) → KeepsOthers who a b → KeepsOthers who b c → KeepsOthers who a c
 keeps_more who a b c first second other n apart is = second other n apart (first other n apart is)
 
-pub keeps_owner : {M D : Type 0} (who : ℕ) (old new : Core M D) → owner_of new ≡ owner_of old → KeepsOthers who old new
+pub keeps_owner : {M D : Type 0} {gm : media.Ghosts M} {gd : disks.Ghosts D} (who : ℕ) (old new : Core M D gm gd) → owner_of new ≡ owner_of old → KeepsOthers who old new
 keeps_owner who old new same other n apart is = ap (λ (owner : Nexus → Option ℕ). owner n) same ∙ is
 
 -- where one lane moved with the core, all agree as before
-pub all_agree : {M D : Type 0} (lanes : List Lane) (i : ℕ) (m : Lane) (old new : Core M D) → i < length lanes → AllAgree lanes old → KeepsOthers i old new → Agrees m.phase i new → AllAgree (slice_set lanes i m) new
+pub all_agree : {M D : Type 0} {gm : media.Ghosts M} {gd : disks.Ghosts D} (lanes : List Lane) (i : ℕ) (m : Lane) (old new : Core M D gm gd) → i < length lanes → AllAgree lanes old → KeepsOthers i old new → Agrees m.phase i new → AllAgree (slice_set lanes i m) new
 all_agree lanes i m old new within agree keeps agrees place l is =
     elim (cases_eq place i) [
       | inl same ↦ (
@@ -55,7 +57,7 @@ all_agree lanes i m old new within agree keeps agrees place l is =
     ]
 
 -- what a lane did, it did among all
-pub ran_on : {M D : Type 0} (Acts : Record → Lane → Deed → Lane → Type 0) (r : Record) (lanes : List Lane) (l m : Lane) (old new : Core M D) (a b : Option (List ℕ)) (lost : List ℕ)
+pub ran_on : {M D : Type 0} {gm : media.Ghosts M} {gd : disks.Ghosts D} (Acts : Record → Lane → Deed → Lane → Type 0) (r : Record) (lanes : List Lane) (l m : Lane) (old new : Core M D gm gd) (a b : Option (List ℕ)) (lost : List ℕ)
     → slice_get lanes (lane_of r) ≡ Some l → Ran (Acts r) a b old l new m lost → Ran (ActsOn Acts r) a b old lanes new (slice_set lanes (lane_of r) m) lost
 ran_on Acts r lanes l m old new a b lost is ran =
     record { entries = ran.entries; output = ran.output; sent = ran.sent; acts = (l, m, is, ran.acts, refl); extends = ran.extends; puts = ran.puts; all = ran.all }
@@ -70,7 +72,7 @@ below lanes (Close_of lane) valid = valid
 pub session_at : (sessions : List Session) (i : ℕ) (d : Session) → i < length sessions → slice_get (lanes_of sessions) i ≡ Some (sess.lane_of (slice_index_or sessions i d))
 session_at sessions i d within = slice_get-map sess.lane_of sessions i ∙ ap (option_map sess.lane_of) (slice_get-get_or sessions i d within)
 
-pub session_ran : {M D : Type 0} (Acts : Record → Lane → Deed → Lane → Type 0) (r : Record) (sessions : List Session) (i : ℕ) (d t : Session) (old new : Core M D) (a b : Option (List ℕ)) (lost : List ℕ)
+pub session_ran : {M D : Type 0} {gm : media.Ghosts M} {gd : disks.Ghosts D} (Acts : Record → Lane → Deed → Lane → Type 0) (r : Record) (sessions : List Session) (i : ℕ) (d t : Session) (old new : Core M D gm gd) (a b : Option (List ℕ)) (lost : List ℕ)
     → i ≡ lane_of r → i < length sessions → Ran (Acts r) a b old (sess.lane_of (slice_index_or sessions i d)) new (sess.lane_of t) lost
     → Ran (ActsOn Acts r) a b old (lanes_of sessions) new (lanes_of (slice_set sessions i t)) lost
 session_ran Acts r sessions i d t old new a b lost at within ran =
@@ -79,7 +81,7 @@ session_ran Acts r sessions i d t old new a b lost at within ran =
     let same : lanes_of (slice_set sessions i t) ≡ slice_set lanes (lane_of r) (sess.lane_of t) = map-set sess.lane_of sessions i t ∙ ap (λ (k : ℕ). slice_set lanes k (sess.lane_of t)) at in
     subst (λ (last : List Lane). Ran (ActsOn Acts r) a b old lanes new last lost) (sym same) (ran_on Acts r lanes (sess.lane_of (slice_index_or sessions i d)) (sess.lane_of t) old new a b lost found ran)
 
-pub session_begun : {M D : Type 0} (Acts : Record → Lane → Deed → Lane → Type 0) (r : Record) (sessions : List Session) (i : ℕ) (d : Session) (old new : Core M D) (a b : Option (List ℕ))
+pub session_begun : {M D : Type 0} {gm : media.Ghosts M} {gd : disks.Ghosts D} (Acts : Record → Lane → Deed → Lane → Type 0) (r : Record) (sessions : List Session) (i : ℕ) (d : Session) (old new : Core M D gm gd) (a b : Option (List ℕ))
     → i ≡ lane_of r → i < length sessions → ((m : Lane) × (lost : List ℕ) × Ran (Acts r) a b old (sess.lane_of (slice_index_or sessions i d)) new m lost)
     → (last : List Lane) × (lost : List ℕ) × Ran (ActsOn Acts r) a b old (lanes_of sessions) new last lost
 session_begun Acts r sessions i d old new a b at within begun =
@@ -87,10 +89,10 @@ session_begun Acts r sessions i d old new a b at within begun =
     let found : slice_get lanes (lane_of r) ≡ Some (sess.lane_of (slice_index_or sessions i d)) = ap (slice_get lanes) (sym at) ∙ session_at sessions i d within in
     (slice_set lanes (lane_of r) begun.0, begun.1, ran_on Acts r lanes (sess.lane_of (slice_index_or sessions i d)) begun.0 old new a b begun.1 found begun.2)
 
-pub session_agrees : {M D : Type 0} (sessions : List Session) (i : ℕ) (d : Session) (c : Core M D) → i < length sessions → AllAgree (lanes_of sessions) c → Agrees (sess.lane_of (slice_index_or sessions i d)).phase i c
+pub session_agrees : {M D : Type 0} {gm : media.Ghosts M} {gd : disks.Ghosts D} (sessions : List Session) (i : ℕ) (d : Session) (c : Core M D gm gd) → i < length sessions → AllAgree (lanes_of sessions) c → Agrees (sess.lane_of (slice_index_or sessions i d)).phase i c
 session_agrees sessions i d c within agree = agree i (sess.lane_of (slice_index_or sessions i d)) (session_at sessions i d within)
 
-pub sessions_agree : {M D : Type 0} (sessions : List Session) (i : ℕ) (t : Session) (old new : Core M D) → i < length sessions
+pub sessions_agree : {M D : Type 0} {gm : media.Ghosts M} {gd : disks.Ghosts D} (sessions : List Session) (i : ℕ) (t : Session) (old new : Core M D gm gd) → i < length sessions
     → AllAgree (lanes_of sessions) old → KeepsOthers i old new → Agrees (sess.lane_of t).phase i new → AllAgree (lanes_of (slice_set sessions i t)) new
 sessions_agree sessions i t old new within agree keeps agrees =
     subst (λ (lanes : List Lane). AllAgree lanes new) (sym (map-set sess.lane_of sessions i t))
@@ -103,7 +105,7 @@ get_replicate n i x y is =
     let within : i < n = omega (arith, slice_get_within (replicate n x) i y is, length-replicate n x) in
     sym (get_or_from_slice_get (replicate n x) i y x is) ∙ get_or-replicate n i x x within
 
-pub fresh_agree : {M D : Type 0} (n : ℕ) (lanes : List Lane) (c : Core M D) → lanes ≡ replicate n fresh → AllAgree lanes c
+pub fresh_agree : {M D : Type 0} {gm : media.Ghosts M} {gd : disks.Ghosts D} (n : ℕ) (lanes : List Lane) (c : Core M D gm gd) → lanes ≡ replicate n fresh → AllAgree lanes c
 fresh_agree n lanes c is place l found =
     let this : l ≡ fresh = get_replicate n place fresh l (ap (λ (w : List Lane). slice_get w place) (sym is) ∙ found) in
     subst (λ (x : Lane). Agrees x.phase place c) (sym this) tt

@@ -7,30 +7,19 @@ use Rattle.pr_grammar.specs.Outputs.{output_of}
 use Rattle.pr_grammar.specs.Schedules.{Arrival}
 use Rattle.pr_model.specs.Limits.{HELD}
 use Rattle.pr_model.specs.Entries.{History}
-use Rattle.pr_model.specs.Histories.{after, IsLegalFrom}
-use Rattle.pr_model.specs.Worlds.{World}
 use Rattle.pr_model.specs.Lanes.{Lane, Phase, Fresh, In, Dead, fresh, arrived, turn}
 use Rattle.pr_model.specs.Runs.{Deed, deed, TakesTurn, TakesTurns, RunsRecord, BeginsRecord, closing, Closes}
-use Rattle.pr_model.proofs.HistoryLaws.{after-append, legal-append}
 use Rattle.pr_model.proofs.Overflow.{MadeRoom, Has_died, Has_room, room_made, takes_more, turns-append, arrived-append, arrived-nil}
+use Rattle.pr_io.specs.declared.outside.Medium as media
+use Rattle.pr_io.specs.declared.outside.Disk as disks
 use Rattle.pr_core.specs.declared.target.Core.{Core}
-use Rattle.pr_core.specs.View.{StandsFor, blocks_of, Extends}
+use Rattle.pr_core.specs.View.{Extends}
+use Rattle.pr_core.proofs.Entering.{extends_none, extends_append}
 use Rattle.pr_tool.specs.Following.{Agrees, Follows, fed, fed_at}
 use Rattle.pr_tool.specs.Exits.{Ran}
 
-pub extends_none : {M D : Type 0} (c : Core M D) → Extends c c []
-extends_none c = record { blocks = refl; legal = λ w is. tt; leads = λ w is. is }
-
-pub extends_more : {M D : Type 0} (a b c : Core M D) (xs ys : History) → Extends a b xs → Extends b c ys → Extends a c (xs ++ ys)
-extends_more a b c xs ys first second =
-    record {
-      blocks = second.blocks ∙ first.blocks;
-      legal = λ w is. legal-append (blocks_of a) w xs ys (first.legal w is) (subst (λ (n : ℕ). IsLegalFrom n (after (blocks_of a) w xs) ys) first.blocks (second.legal (after (blocks_of a) w xs) (first.leads w is)));
-      leads = λ w is. subst (λ (v : World). StandsFor c v) (ap (λ (n : ℕ). after n (after (blocks_of a) w xs) ys) first.blocks ∙ sym (after-append (blocks_of a) w xs ys)) (second.leads (after (blocks_of a) w xs) (first.leads w is));
-    }
-
 -- a turn whose reply was written
-pub turn_ran : {M D : Type 0} (who : ℕ) (old new : Core M D) (a b : Option (List ℕ)) (l m : Lane) (reply : List ℕ) → Follows who old l (turn l) new m reply → Put a b (output_of who reply) → Ran (TakesTurn who) a b old l new m []
+pub turn_ran : {M D : Type 0} {gm : media.Ghosts M} {gd : disks.Ghosts D} (who : ℕ) (old new : Core M D gm gd) (a b : Option (List ℕ)) (l m : Lane) (reply : List ℕ) → Follows who old l (turn l) new m reply → Put a b (output_of who reply) → Ran (TakesTurn who) a b old l new m []
 turn_ran who old new a b l m reply f put =
     record {
       entries = f.entries;
@@ -42,7 +31,7 @@ turn_ran who old new a b l m reply f put =
       all = sym (append-nil (output_of who reply));
     }
 
-pub turn_lost : {M D : Type 0} (who : ℕ) (old new : Core M D) (a b : Option (List ℕ)) (l m : Lane) (reply : List ℕ) → Follows who old l (turn l) new m reply → PutSome a b (output_of who reply) → (lost : List ℕ) × Ran (TakesTurn who) a b old l new m lost
+pub turn_lost : {M D : Type 0} {gm : media.Ghosts M} {gd : disks.Ghosts D} (who : ℕ) (old new : Core M D gm gd) (a b : Option (List ℕ)) (l m : Lane) (reply : List ℕ) → Follows who old l (turn l) new m reply → PutSome a b (output_of who reply) → (lost : List ℕ) × Ran (TakesTurn who) a b old l new m lost
 turn_lost who old new a b l m reply f put = (
   put.1,
   record {
@@ -74,7 +63,7 @@ made_room m more (Has_died l is) some = dead_fed m.phase m.bytes more is some
 made_room m more (Has_room l room) some = fed_room m.phase m.bytes more room some
 
 -- after a turn of a full lane that lives there is room
-pub turn_room : {M D : Type 0} (who : ℕ) (old new : Core M D) (l m : Lane) (reply : List ℕ) → Follows who old l (turn l) new m reply
+pub turn_room : {M D : Type 0} {gm : media.Ghosts M} {gd : disks.Ghosts D} (who : ℕ) (old new : Core M D gm gd) (l m : Lane) (reply : List ℕ) → Follows who old l (turn l) new m reply
     → length l.bytes ≡ HELD → (l.phase ≡ Dead → ⊥) → (more : List ℕ) → 0 < length more → 0 < fed m more
 turn_room who old new l m reply f full alive more some = made_room m more (room_made who l m f.entries reply full alive f.makes) some
 
@@ -120,7 +109,7 @@ fed_full l m more n is goes bound less =
 taken_and_rest : (l m : Lane) (bytes : List ℕ) (n : ℕ) → m ≡ arrived l (take n bytes) → arrived m (drop n bytes) ≡ arrived l bytes
 taken_and_rest l m bytes n goes = ap (λ (x : Lane). arrived x (drop n bytes)) goes ∙ arrived-append l (take n bytes) (drop n bytes) ∙ ap (arrived l) (take-append-drop n bytes)
 
-pub room_start : {M D : Type 0} (who : ℕ) (c : Core M D) (a : Option (List ℕ)) (l m : Lane) (bytes : List ℕ) (n : ℕ) → m ≡ arrived l (take n bytes) → Ran (Makes_room who bytes) a a c l c (arrived m (drop n bytes)) []
+pub room_start : {M D : Type 0} {gm : media.Ghosts M} {gd : disks.Ghosts D} (who : ℕ) (c : Core M D gm gd) (a : Option (List ℕ)) (l m : Lane) (bytes : List ℕ) (n : ℕ) → m ≡ arrived l (take n bytes) → Ran (Makes_room who bytes) a a c l c (arrived m (drop n bytes)) []
 room_start who c a l m bytes n goes =
     record {
       entries = [];
@@ -132,7 +121,7 @@ room_start who c a l m bytes n goes =
       all = refl;
     }
 
-room_join : {M D : Type 0} (who : ℕ) (c0 c1 c2 : Core M D) (a b d : Option (List ℕ)) (l mid last : Lane) (bytes lost : List ℕ)
+room_join : {M D : Type 0} {gm : media.Ghosts M} {gd : disks.Ghosts D} (who : ℕ) (c0 c1 c2 : Core M D gm gd) (a b d : Option (List ℕ)) (l mid last : Lane) (bytes lost : List ℕ)
     → Ran (Makes_room who bytes) a b c0 l c1 mid [] → HELD < length mid.bytes → Ran (TakesTurn who) b d c1 mid c2 last lost → Ran (Makes_room who bytes) a d c0 l c2 last lost
 room_join who c0 c1 c2 a b d l mid last bytes lost first more next =
     record {
@@ -140,18 +129,18 @@ room_join who c0 c1 c2 a b d l mid last bytes lost first more next =
       output = first.output ++ next.output;
       sent = first.sent ++ next.sent;
       acts = (suc first.acts.0, turns-append first.acts.0 who (arrived l bytes) mid last (deed first.entries first.output) (deed next.entries next.output) first.acts.1 more next.acts);
-      extends = extends_more c0 c1 c2 first.entries next.entries first.extends next.extends;
+      extends = extends_append c0 c1 c2 first.entries next.entries first.extends next.extends;
       puts = put_more a b d first.sent next.sent first.puts next.puts;
       all = ap (λ (w : List ℕ). w ++ next.output) (first.all ∙ append-nil first.sent) ∙ ap (λ (w : List ℕ). first.sent ++ w) next.all ∙ sym (append_assoc first.sent next.sent lost);
     }
 
-turn_behind : {M D : Type 0} (who : ℕ) (c1 c2 : Core M D) (b d : Option (List ℕ)) (l m : Lane) (rest lost : List ℕ) → HELD ≤ length l.bytes
+turn_behind : {M D : Type 0} {gm : media.Ghosts M} {gd : disks.Ghosts D} (who : ℕ) (c1 c2 : Core M D gm gd) (b d : Option (List ℕ)) (l m : Lane) (rest lost : List ℕ) → HELD ≤ length l.bytes
     → Ran (TakesTurn who) b d c1 l c2 m lost → Ran (TakesTurn who) b d c1 (arrived l rest) c2 (arrived m rest) lost
 turn_behind who c1 c2 b d l m rest lost full ran =
     record { entries = ran.entries; output = ran.output; sent = ran.sent; acts = takes_more who l m (deed ran.entries ran.output) rest full ran.acts; extends = ran.extends; puts = ran.puts; all = ran.all }
 
 -- one more turn of a full lane, with bytes that wait behind it
-pub room_more : {M D : Type 0} (who : ℕ) (c0 c1 c2 : Core M D) (a b d : Option (List ℕ)) (l mid next : Lane) (bytes rest lost : List ℕ)
+pub room_more : {M D : Type 0} {gm : media.Ghosts M} {gd : disks.Ghosts D} (who : ℕ) (c0 c1 c2 : Core M D gm gd) (a b d : Option (List ℕ)) (l mid next : Lane) (bytes rest lost : List ℕ)
     → Ran (Makes_room who bytes) a b c0 l c1 (arrived mid rest) [] → length mid.bytes ≡ HELD → (mid.phase ≡ Dead → ⊥) → 0 < length rest
     → Ran (TakesTurn who) b d c1 mid c2 next lost → Ran (Makes_room who bytes) a d c0 l c2 (arrived next rest) lost
 room_more who c0 c1 c2 a b d l mid next bytes rest lost first full alive some turn =
@@ -159,7 +148,7 @@ room_more who c0 c1 c2 a b d l mid next bytes rest lost first full alive some tu
     room_join who c0 c1 c2 a b d l (arrived mid rest) (arrived next rest) bytes lost first long (turn_behind who c1 c2 b d mid next rest lost (omega (arith, full)) turn)
 
 -- the lane takes some of the bytes that wait
-pub room_fed : {M D : Type 0} (who : ℕ) (c0 c1 : Core M D) (a b : Option (List ℕ)) (l mid next : Lane) (bytes : List ℕ) (at n : ℕ)
+pub room_fed : {M D : Type 0} {gm : media.Ghosts M} {gd : disks.Ghosts D} (who : ℕ) (c0 c1 : Core M D gm gd) (a b : Option (List ℕ)) (l mid next : Lane) (bytes : List ℕ) (at n : ℕ)
     → Ran (Makes_room who bytes) a b c0 l c1 (arrived mid (drop at bytes)) [] → next ≡ arrived mid (take n (drop at bytes)) → Ran (Makes_room who bytes) a b c0 l c1 (arrived next (drop (at + n) bytes)) []
 room_fed who c0 c1 a b l mid next bytes at n ran goes =
     let same : arrived mid (drop at bytes) ≡ arrived next (drop (at + n) bytes) =
@@ -167,14 +156,14 @@ room_fed who c0 c1 a b l mid next bytes at n ran goes =
     subst (λ (x : Lane). Ran (Makes_room who bytes) a b c0 l c1 x []) same ran
 
 -- all bytes were taken
-pub room_end : {M D : Type 0} (who : ℕ) (c0 c1 : Core M D) (a b : Option (List ℕ)) (l m : Lane) (bytes : List ℕ) (at : ℕ) → length bytes ≤ at → length m.bytes ≤ HELD
+pub room_end : {M D : Type 0} {gm : media.Ghosts M} {gd : disks.Ghosts D} (who : ℕ) (c0 c1 : Core M D gm gd) (a b : Option (List ℕ)) (l m : Lane) (bytes : List ℕ) (at : ℕ) → length bytes ≤ at → length m.bytes ≤ HELD
     → Ran (Makes_room who bytes) a b c0 l c1 (arrived m (drop at bytes)) [] → Ran (RunsRecord (Arrival who bytes)) a b c0 l c1 m []
 room_end who c0 c1 a b l m bytes at all bound ran =
     let last : arrived m (drop at bytes) ≡ m = ap (arrived m) (drop_all at bytes all) ∙ arrived-nil m in
     let here : Ran (Makes_room who bytes) a b c0 l c1 m [] = subst (λ (x : Lane). Ran (Makes_room who bytes) a b c0 l c1 x []) last ran in
     record { entries = here.entries; output = here.output; sent = here.sent; acts = (here.acts, bound); extends = here.extends; puts = here.puts; all = here.all }
 
-pub room_begun : {M D : Type 0} (who : ℕ) (c0 c1 : Core M D) (a b : Option (List ℕ)) (l m : Lane) (bytes lost : List ℕ) → Ran (Makes_room who bytes) a b c0 l c1 m lost → Ran (BeginsRecord (Arrival who bytes)) a b c0 l c1 m lost
+pub room_begun : {M D : Type 0} {gm : media.Ghosts M} {gd : disks.Ghosts D} (who : ℕ) (c0 c1 : Core M D gm gd) (a b : Option (List ℕ)) (l m : Lane) (bytes lost : List ℕ) → Ran (Makes_room who bytes) a b c0 l c1 m lost → Ran (BeginsRecord (Arrival who bytes)) a b c0 l c1 m lost
 room_begun who c0 c1 a b l m bytes lost ran = record { entries = ran.entries; output = ran.output; sent = ran.sent; acts = ran.acts; extends = ran.extends; puts = ran.puts; all = ran.all }
 
 pub fed_within : (p : Phase) (bytes more : List ℕ) → fed_at p bytes more ≤ length more
@@ -183,12 +172,12 @@ fed_within Fresh bytes more = omega arith
 fed_within (In n) bytes more = omega arith
 
 -- a session agrees with a core as before while bytes come
-pub agrees_still : {M D : Type 0} (who : ℕ) (c : Core M D) (l m : Lane) (more : List ℕ) → m ≡ arrived l more → Agrees l.phase who c → Agrees m.phase who c
+pub agrees_still : {M D : Type 0} {gm : media.Ghosts M} {gd : disks.Ghosts D} (who : ℕ) (c : Core M D gm gd) (l m : Lane) (more : List ℕ) → m ≡ arrived l more → Agrees l.phase who c → Agrees m.phase who c
 agrees_still who c l m more goes agrees = subst (λ (p : Phase). Agrees p who c) (sym (ap (λ (x : Lane). x.phase) goes ∙ same_phase l more)) agrees
 
 pub all_behind : (at : ℕ) (bytes : List ℕ) → take (length bytes - at) (drop at bytes) ≡ drop at bytes
 all_behind at bytes = take_all (length bytes - at) (drop at bytes) (omega (arith, length-drop at bytes))
 
 -- a connection that was closed, which writes nothing
-pub closed_ran : {M D : Type 0} (who : ℕ) (old new : Core M D) (a : Option (List ℕ)) (l m : Lane) → Extends old new (closing who l.phase) → m ≡ fresh → Ran (Closes who) a a old l new m []
+pub closed_ran : {M D : Type 0} {gm : media.Ghosts M} {gd : disks.Ghosts D} (who : ℕ) (old new : Core M D gm gd) (a : Option (List ℕ)) (l m : Lane) → Extends old new (closing who l.phase) → m ≡ fresh → Ran (Closes who) a a old l new m []
 closed_ran who old new a l m made is = record { entries = closing who l.phase; output = []; sent = []; acts = (refl, is); extends = made; puts = put_nothing a; all = refl }

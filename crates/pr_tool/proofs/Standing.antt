@@ -9,12 +9,14 @@ use Rattle.pr_io.proofs.Pieces.{put_more, took_more, put_nothing, took_nothing}
 use Rattle.pr_grammar.specs.Schedules.{Record, IsRecord, spelled_record}
 use Rattle.pr_grammar.proofs.Records.{not_whole_and_broken, not_whole_and_long, not_broken_and_long}
 use Rattle.pr_model.specs.Keeping.{Nothing}
-use Rattle.pr_model.specs.Worlds.{World, powered}
-use Rattle.pr_model.specs.Histories.{after, IsLegalFrom}
+use Rattle.pr_model.specs.Worlds.{Blocks, World, opened}
+use Rattle.pr_model.specs.Histories.{after, IsLegalOver}
 use Rattle.pr_model.specs.Lanes.{Lane, fresh}
 use Rattle.pr_model.specs.Runs.{deed, IsRun}
 use Rattle.pr_model.proofs.HistoryLaws.{after-append, legal-append}
 use Rattle.pr_model.proofs.RunLaws.{run-append}
+use Rattle.pr_io.specs.declared.outside.Medium as media
+use Rattle.pr_io.specs.declared.outside.Disk as disks
 use Rattle.pr_core.specs.declared.target.Core.{Core}
 use Rattle.pr_core.specs.View.{StandsFor, blocks_of}
 use Rattle.pr_tool.specs.Exits.{HasRun, Stands, GoesOn, Causes, IsEarlier, Decides}
@@ -26,7 +28,7 @@ use Rattle.pr_tool.specs.declared.replay.Stop.{Stop}
 use Rattle.pr_tool.specs.declared.replay.Stop.TheVariants as stop
 use Rattle.pr_tool.proofs.Causes.{Carries, carries_all, carries_more, done_whole, broken_broken, too_long_long}
 
-pub run_first : {M D : Type 0} (lanes : ℕ) (c : Core M D) (r w : Option (List ℕ)) (now : List Lane) → StandsFor c (powered Nothing) → now ≡ replicate lanes fresh → GoesOn lanes c (blocks_of c) r r w w now 0
+pub run_first : {M D : Type 0} {gm : media.Ghosts M} {gd : disks.Ghosts D} (lanes : ℕ) (c : Core M D gm gd) (r w : Option (List ℕ)) (now : List Lane) → ((m : Blocks) → m.count ≡ blocks_of c → StandsFor c (opened m Nothing)) → now ≡ replicate lanes fresh → GoesOn lanes c (blocks_of c) r r w w now 0
 run_first lanes c r w now opening is =
     record {
       run =
@@ -41,7 +43,7 @@ run_first lanes c r w now opening is =
             valid = All-nil (IsRecord lanes);
             puts = put_nothing w;
             all = refl;
-            legal = tt;
+            legal = λ m count. tt;
             runs = (refl, is);
           };
       stands = opening;
@@ -61,11 +63,11 @@ size_more records r n k is size =
     omega (arith, ap length text, length-append (flat_map spelled_record records) (spelled_record r), is, size)
 
 -- one more record that ran
-pub run_more : {M D : Type 0} (lanes : ℕ) (c1 c2 : Core M D) (blocks left : ℕ) (ra rb rc wa wb wc : Option (List ℕ)) (before now : List Lane) (n size : ℕ)
+pub run_more : {M D : Type 0} {gm : media.Ghosts M} {gd : disks.Ghosts D} (lanes : ℕ) (c1 c2 : Core M D gm gd) (blocks left : ℕ) (ra rb rc wa wb wc : Option (List ℕ)) (before now : List Lane) (n size : ℕ)
     → GoesOn lanes c1 blocks ra rb wa wb before n → Did lanes left rb rc wb wc c1 before c2 now size → GoesOn lanes c2 blocks ra rc wa wc now (n + size)
 run_more lanes c1 c2 blocks left ra rb rc wa wb wc before now n size s did =
-    let start : World = powered Nothing in
-    let legal : IsLegalFrom blocks (after blocks start s.run.entries) did.ran.entries = subst (λ (k : ℕ). IsLegalFrom k (after blocks start s.run.entries) did.ran.entries) s.medium (did.ran.extends.legal (after blocks start s.run.entries) s.stands) in
+    let legal : IsLegalOver blocks Nothing (s.run.entries ++ did.ran.entries) =
+    λ m count. legal-append (opened m Nothing) s.run.entries did.ran.entries (s.run.legal m count) (did.ran.extends.legal (after (opened m Nothing) s.run.entries) (s.stands m count)) in
     record {
       run =
           record {
@@ -79,22 +81,23 @@ run_more lanes c1 c2 blocks left ra rb rc wa wb wc before now n size s did =
             valid = All-append (IsRecord lanes) s.run.records (did.first ∷ []) s.run.valid (All-cons (IsRecord lanes) did.first [] did.valid (All-nil (IsRecord lanes)));
             puts = put_more wa wb wc s.run.sent did.ran.sent s.run.puts did.ran.puts;
             all = ap (λ (w : List ℕ). w ++ did.ran.output) (s.run.all ∙ append-nil s.run.sent) ∙ ap (λ (w : List ℕ). s.run.sent ++ w) did.ran.all ∙ sym (append_assoc s.run.sent did.ran.sent []);
-            legal = legal-append blocks start s.run.entries did.ran.entries s.run.legal legal;
+            legal = legal;
             runs = run-append (replicate lanes fresh) s.run.records (deed s.run.entries s.run.output) before did.first (deed did.ran.entries did.ran.output) now s.run.runs did.ran.acts;
           };
       stands =
-          subst (λ (w : World). StandsFor c2 w) (ap (λ (k : ℕ). after k (after blocks start s.run.entries) did.ran.entries) s.medium ∙ sym (after-append blocks start s.run.entries did.ran.entries))
-          (did.ran.extends.leads (after blocks start s.run.entries) s.stands);
+          λ m count.
+              subst (λ (w : World). StandsFor c2 w) (sym (after-append (opened m Nothing) s.run.entries did.ran.entries))
+              (did.ran.extends.leads (after (opened m Nothing) s.run.entries) (s.stands m count));
       medium = did.ran.extends.blocks ∙ s.medium;
       counted = size_more s.run.records did.first n size s.counted did.counted;
     }
 
 -- one more record that began to run
-run_begun : {M D : Type 0} (lanes : ℕ) (c1 c2 : Core M D) (blocks left : ℕ) (ra rb rc wa wb wc : Option (List ℕ)) (before : List Lane) (n : ℕ)
+run_begun : {M D : Type 0} {gm : media.Ghosts M} {gd : disks.Ghosts D} (lanes : ℕ) (c1 c2 : Core M D gm gd) (blocks left : ℕ) (ra rb rc wa wb wc : Option (List ℕ)) (before : List Lane) (n : ℕ)
     → GoesOn lanes c1 blocks ra rb wa wb before n → Began lanes left rb rc wb wc c1 before c2 → Stands lanes exits.WriteFault blocks ra rc wa wc
 run_begun lanes c1 c2 blocks left ra rb rc wa wb wc before n s did =
-    let start : World = powered Nothing in
-    let legal : IsLegalFrom blocks (after blocks start s.run.entries) did.ran.entries = subst (λ (k : ℕ). IsLegalFrom k (after blocks start s.run.entries) did.ran.entries) s.medium (did.ran.extends.legal (after blocks start s.run.entries) s.stands) in (
+    let legal : IsLegalOver blocks Nothing (s.run.entries ++ did.ran.entries) =
+    λ m count. legal-append (opened m Nothing) s.run.entries did.ran.entries (s.run.legal m count) (did.ran.extends.legal (after (opened m Nothing) s.run.entries) (s.stands m count)) in (
       did.last,
       did.lost,
       record {
@@ -108,7 +111,7 @@ run_begun lanes c1 c2 blocks left ra rb rc wa wb wc before n s did =
         valid = All-append (IsRecord lanes) s.run.records (did.first ∷ []) s.run.valid (All-cons (IsRecord lanes) did.first [] did.valid (All-nil (IsRecord lanes)));
         puts = put_more wa wb wc s.run.sent did.ran.sent s.run.puts did.ran.puts;
         all = ap (λ (w : List ℕ). w ++ did.ran.output) (s.run.all ∙ append-nil s.run.sent) ∙ ap (λ (w : List ℕ). s.run.sent ++ w) did.ran.all ∙ sym (append_assoc s.run.sent did.ran.sent did.lost);
-        legal = legal-append blocks start s.run.entries did.ran.entries s.run.legal legal;
+        legal = legal;
         runs = (
           s.run.records,
           did.first,
@@ -141,7 +144,7 @@ with_tail lanes blocks ra rb rc wa wb wc last tail run took same =
       runs = run.runs;
     }
 
-pub run_stops : {M D : Type 0} (lanes : ℕ) (s : Stop) (c1 c2 : Core M D) (blocks left : ℕ) (ra rb rc wa wb wc : Option (List ℕ)) (now : List Lane) (n : ℕ)
+pub run_stops : {M D : Type 0} {gm : media.Ghosts M} {gd : disks.Ghosts D} (lanes : ℕ) (s : Stop) (c1 c2 : Core M D gm gd) (blocks left : ℕ) (ra rb rc wa wb wc : Option (List ℕ)) (now : List Lane) (n : ℕ)
     → GoesOn lanes c1 blocks ra rb wa wb now n → StopsBy lanes left s rb rc wb wc c1 now c2 → Stands lanes (exit_of s n) blocks ra rc wa wc
 run_stops lanes (stop.Read Done) c1 c2 blocks left ra rb rc wa wb wc now n s stops =
     (now, with_tail lanes blocks ra rb rc wa wb wc now [] s.run stops.0.0 stops.1, stops.0.1)
@@ -163,7 +166,7 @@ pub told_first : (lanes budget : ℕ) (r : Option (List ℕ)) → CarriesTold la
 told_first lanes budget None = tt
 told_first lanes budget (Some all) = carries_all lanes budget all
 
-pub told_more : {M D : Type 0} (lanes budget left size : ℕ) (ra rb rc wb wc : Option (List ℕ)) (c1 c2 : Core M D) (before now : List Lane) → CarriesTold lanes budget left ra rb → Did lanes left rb rc wb wc c1 before c2 now size → CarriesTold lanes budget (left - size) ra rc
+pub told_more : {M D : Type 0} {gm : media.Ghosts M} {gd : disks.Ghosts D} (lanes budget left size : ℕ) (ra rb rc wb wc : Option (List ℕ)) (c1 c2 : Core M D gm gd) (before now : List Lane) → CarriesTold lanes budget left ra rb → Did lanes left rb rc wb wc c1 before c2 now size → CarriesTold lanes budget (left - size) ra rc
 told_more lanes budget left size None rb rc wb wc c1 c2 before now carries did = tt
 told_more lanes budget left size (Some all) None rc wb wc c1 c2 before now carries did = absurd carries
 told_more lanes budget left size (Some all) (Some rest) None wb wc c1 c2 before now carries did = absurd did.took
@@ -171,7 +174,7 @@ told_more lanes budget left size (Some all) (Some rest) (Some later) wb wc c1 c2
     subst (λ (k : ℕ). Carries lanes budget (left - k) all later) (sym did.counted)
     (carries_more lanes budget left did.first all rest later (record { spelling = did.took; valid = did.valid; fits = did.within }) carries)
 
-pub told_stops : {M D : Type 0} (lanes : ℕ) (s : Stop) (budget left place : ℕ) (ra rb rc wb wc : Option (List ℕ)) (c1 c2 : Core M D) (now : List Lane) → CarriesTold lanes budget left ra rb → StopsBy lanes left s rb rc wb wc c1 now c2 → Causes lanes (exit_of s place) budget ra
+pub told_stops : {M D : Type 0} {gm : media.Ghosts M} {gd : disks.Ghosts D} (lanes : ℕ) (s : Stop) (budget left place : ℕ) (ra rb rc wb wc : Option (List ℕ)) (c1 c2 : Core M D gm gd) (now : List Lane) → CarriesTold lanes budget left ra rb → StopsBy lanes left s rb rc wb wc c1 now c2 → Causes lanes (exit_of s place) budget ra
 told_stops lanes (stop.Read Done) budget left place None rb rc wb wc c1 c2 now carries stops = tt
 told_stops lanes (stop.Read Done) budget left place (Some all) None rc wb wc c1 c2 now carries stops = absurd carries
 told_stops lanes (stop.Read Done) budget left place (Some all) (Some rest) rc wb wc c1 c2 now carries stops = carries.whole (done_whole lanes left rest rc stops.0)

@@ -4,11 +4,13 @@ use Rattle.std.specs.List.{flat_map}
 use Rattle.pr_io.specs.Streams.{Took, Put}
 use Rattle.pr_grammar.specs.Schedules.{Record, IsRecord, spelled_record, Partial, Faulty, record_front, IsUnfinished, IsWhole, IsBroken, IsLong}
 use Rattle.pr_model.specs.Keeping.{Nothing}
-use Rattle.pr_model.specs.Worlds.{powered}
+use Rattle.pr_model.specs.Worlds.{Blocks, opened}
 use Rattle.pr_model.specs.Entries.{History}
-use Rattle.pr_model.specs.Histories.{IsLegal, after}
+use Rattle.pr_model.specs.Histories.{IsLegalOver, after}
 use Rattle.pr_model.specs.Lanes.{Lane, fresh}
 use Rattle.pr_model.specs.Runs.{Deed, deed, IsRun, IsBegunRun}
+use Rattle.pr_io.specs.declared.outside.Medium as media
+use Rattle.pr_io.specs.declared.outside.Disk as disks
 use Rattle.pr_core.specs.declared.target.Core.{Core}
 use Rattle.pr_core.specs.View.{StandsFor, blocks_of, Extends}
 use Rattle.pr_tool.specs.Reading.{IsAtEnd}
@@ -27,7 +29,7 @@ pub record HasRun (Run : List Lane → List Record → Deed → List Lane → Ty
   pub valid : All (IsRecord lanes) records
   pub puts : Put written_old written sent
   pub all : output ≡ sent ++ lost
-  pub legal : IsLegal blocks Nothing entries
+  pub legal : IsLegalOver blocks Nothing entries
   pub runs : Run (replicate lanes fresh) records (deed entries output) last
 
 -- how a run of so many lanes stands at each exit; nothing was read or written where none began
@@ -72,7 +74,7 @@ Decides lanes exit budget (Some all) =
     × (IsLong lanes budget all → IsEarlier exit ⊎ (exit ≡ TooLong))
 
 -- what a core and a lane, or a core and all lanes, did together: entries, and bytes put, but for those that are lost
-pub record Ran {M D X : Type 0} (Acts : X → Deed → X → Type 0) (written_old written : Option (List ℕ)) (old : Core M D) (l : X) (new : Core M D) (m : X) (lost : List ℕ) : Type 0 where
+pub record Ran {M D X : Type 0} {gm : media.Ghosts M} {gd : disks.Ghosts D} (Acts : X → Deed → X → Type 0) (written_old written : Option (List ℕ)) (old : Core M D gm gd) (l : X) (new : Core M D gm gd) (m : X) (lost : List ℕ) : Type 0 where
   pub entries : History
   pub output : List ℕ
   pub sent : List ℕ
@@ -82,8 +84,8 @@ pub record Ran {M D X : Type 0} (Acts : X → Deed → X → Type 0) (written_ol
   pub all : output ≡ sent ++ lost
 
 -- a run that goes on: its core and its lanes, and how many bytes its records took
-pub record GoesOn {M D : Type 0} (lanes : ℕ) (core : Core M D) (blocks : ℕ) (rest_old rest written_old written : Option (List ℕ)) (now : List Lane) (size : ℕ) : Type 0 where
+pub record GoesOn {M D : Type 0} {gm : media.Ghosts M} {gd : disks.Ghosts D} (lanes : ℕ) (core : Core M D gm gd) (blocks : ℕ) (rest_old rest written_old written : Option (List ℕ)) (now : List Lane) (size : ℕ) : Type 0 where
   pub run : HasRun IsRun lanes blocks rest_old rest written_old written now [] []
-  pub stands : StandsFor core (after blocks (powered Nothing) run.entries)
+  pub stands : (medium : Blocks) → medium.count ≡ blocks → StandsFor core (after (opened medium Nothing) run.entries)
   pub medium : blocks_of core ≡ blocks
   pub counted : size ≡ length (flat_map spelled_record run.records)

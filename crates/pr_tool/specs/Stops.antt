@@ -4,6 +4,8 @@ use Rattle.pr_io.specs.Streams.{Took}
 use Rattle.pr_grammar.specs.Schedules.{Record, IsRecord, spelled_record}
 use Rattle.pr_model.specs.Lanes.{Lane}
 use Rattle.pr_model.specs.Runs.{ActsOn, RunsRecord, BeginsRecord}
+use Rattle.pr_io.specs.declared.outside.Medium as media
+use Rattle.pr_io.specs.declared.outside.Disk as disks
 use Rattle.pr_core.specs.declared.target.Core.{Core}
 use Rattle.pr_tool.specs.Reading.{Stops}
 use Rattle.pr_tool.specs.Exits.{Ran}
@@ -26,7 +28,7 @@ exit_of (stop.Read end) place = exit_at end place
 exit_of stop.Write place = exits.WriteFault
 
 -- a record that was read, and what it did on its lane, of so many
-pub record Did {M D : Type 0} (lanes left : ℕ) (rest_old rest written_old written : Option (List ℕ)) (old : Core M D) (before : List Lane) (new : Core M D) (now : List Lane) (size : ℕ) : Type 0 where
+pub record Did {M D : Type 0} {gm : media.Ghosts M} {gd : disks.Ghosts D} (lanes left : ℕ) (rest_old rest written_old written : Option (List ℕ)) (old : Core M D gm gd) (before : List Lane) (new : Core M D gm gd) (now : List Lane) (size : ℕ) : Type 0 where
   pub first : Record
   pub took : Took rest_old rest (spelled_record first)
   pub valid : IsRecord lanes first
@@ -36,7 +38,7 @@ pub record Did {M D : Type 0} (lanes left : ℕ) (rest_old rest written_old writ
   pub some : 4 ≤ size
 
 -- a record that was read, and began to act until a reply couldn't be written
-pub record Began {M D : Type 0} (lanes left : ℕ) (rest_old rest written_old written : Option (List ℕ)) (old : Core M D) (before : List Lane) (new : Core M D) : Type 0 where
+pub record Began {M D : Type 0} {gm : media.Ghosts M} {gd : disks.Ghosts D} (lanes left : ℕ) (rest_old rest written_old written : Option (List ℕ)) (old : Core M D gm gd) (before : List Lane) (new : Core M D gm gd) : Type 0 where
   pub first : Record
   pub took : Took rest_old rest (spelled_record first)
   pub valid : IsRecord lanes first
@@ -45,11 +47,11 @@ pub record Began {M D : Type 0} (lanes left : ℕ) (rest_old rest written_old wr
   pub lost : List ℕ
   pub ran : Ran (ActsOn BeginsRecord first) written_old written old before new last lost
 
-abbrev pub StopsBy : {M D : Type 0} → ℕ → ℕ → Stop → Option (List ℕ) → Option (List ℕ) → Option (List ℕ) → Option (List ℕ) → Core M D → List Lane → Core M D → Type 0
+abbrev pub StopsBy : {M D : Type 0} {gm : media.Ghosts M} {gd : disks.Ghosts D} → ℕ → ℕ → Stop → Option (List ℕ) → Option (List ℕ) → Option (List ℕ) → Option (List ℕ) → Core M D gm gd → List Lane → Core M D gm gd → Type 0
 StopsBy lanes left (stop.Read end) ra rb wa wb old before new = Stops lanes left end ra rb × (wb ≡ wa)
 StopsBy lanes left stop.Write ra rb wa wb old before new = Began lanes left ra rb wa wb old before new
 
 -- what one record did, of so many bytes that may still be looked at, or why the run stops
-abbrev pub Does : {M D : Type 0} → ℕ → ℕ → Result ℕ Stop → Option (List ℕ) → Option (List ℕ) → Option (List ℕ) → Option (List ℕ) → Core M D → List Lane → Core M D → List Lane → Type 0
+abbrev pub Does : {M D : Type 0} {gm : media.Ghosts M} {gd : disks.Ghosts D} → ℕ → ℕ → Result ℕ Stop → Option (List ℕ) → Option (List ℕ) → Option (List ℕ) → Option (List ℕ) → Core M D gm gd → List Lane → Core M D gm gd → List Lane → Type 0
 Does lanes left (Ok size) ra rb wa wb old before new now = Did lanes left ra rb wa wb old before new now size
 Does lanes left (Err s) ra rb wa wb old before new now = StopsBy lanes left s ra rb wa wb old before new

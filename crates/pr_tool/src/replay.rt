@@ -3,7 +3,7 @@ ghost use Rattle.pr_io.specs.Causes.{HasCause, Rose};
 ghost use Rattle.pr_grammar.specs.Schedules as schedules;
 ghost use Rattle.pr_model.specs.Limits.{HELD};
 ghost use Rattle.pr_model.specs.Keeping.{Nothing};
-ghost use Rattle.pr_model.specs.Worlds.{powered};
+ghost use Rattle.pr_model.specs.Worlds.{Blocks, opened};
 ghost use Rattle.pr_model.specs.Lanes.{Lane, Dead, fresh};
 ghost use Rattle.pr_model.specs.Runs.{TakesTurn, RunsRecord, BeginsRecord, ActsOn};
 ghost use Rattle.pr_core.specs.View.{StandsFor, blocks_of, KeepsOthers};
@@ -210,7 +210,7 @@ fn run<S: Source, K: Sink, M: Medium, D: Disk>(
     body: &mut Vec<u8>,
     budget: u64,
 ) -> Exit
-    requires opening { StandsFor core.old (powered Nothing) }
+    requires opening { (m : Blocks) → m.count ≡ blocks_of core.old → StandsFor core.old (opened m Nothing) }
     requires fresh { lanes_of lanes.old ≡ replicate (length lanes.old) fresh }
     requires most { length lanes.old ≤ 64 }
     requires room { vec_len body.old ≡ 65535 }

@@ -2,3 +2,4 @@ pub mod Fields
 pub mod Codes
 pub mod Kinds
 pub mod Orders
+pub mod Services

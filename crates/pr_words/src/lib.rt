@@ -7,6 +7,7 @@ mod limits;
 mod nexus;
 mod reservation;
 mod role;
+mod service;
 mod task;
 
 pub use code::{Code, Sense, Status};
@@ -17,4 +18,5 @@ pub use limits::{
 pub use nexus::{Key, Nexus, Pair, Side, is_same, stands_before};
 pub use reservation::{Kind, Reservation};
 pub use role::Role;
+pub use service::{InService, OutService};
 pub use task::Way;

@@ -8,7 +8,7 @@ invariant-loop-at g l =
       within : l.at ≤ length l.buf;
       took : Took (g.S.Source.rest l.initial.source) (g.S.Source.rest l.source) (take l.at l.buf);
       untouched : l.at ≡ 0 → l.source ≡ l.initial.source;
-      later : g.S.Source.faults l.initial.source ≤ g.S.Source.faults l.source;
+      calm : g.S.Source.faults l.source ≡ g.S.Source.faults l.initial.source;
     }
 
 abbrev pub decreases-loop-at : goal.decreases-loop-at

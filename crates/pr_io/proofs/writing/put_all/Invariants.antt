@@ -8,7 +8,7 @@ invariant-loop-at g l =
       within : l.at ≤ length l.piece;
       puts : Put (g.K.Sink.written l.initial.sink) (g.K.Sink.written l.sink) (take l.at l.piece);
       untouched : l.at ≡ 0 → l.sink ≡ l.initial.sink;
-      later : g.K.Sink.faults l.initial.sink ≤ g.K.Sink.faults l.sink;
+      calm : g.K.Sink.faults l.sink ≡ g.K.Sink.faults l.initial.sink;
     }
 
 abbrev pub decreases-loop-at : goal.decreases-loop-at

@@ -7,7 +7,7 @@ use Rattle.pr_model.specs.Histories.{login_code}
 use Rattle.pr_core.specs.declared.seats.Seat.{Seat}
 use Rattle.pr_core.specs.Seats.{seat_of, count_of, owner_in, logged_in}
 use Rattle.pr_core.specs.States.{owner_at}
-use Rattle.pr_core.proofs.StateLaws.{login_shows, stays_seated, others_stay, at_same, owner_now, accepted_code}
+use Rattle.pr_core.proofs.StateLaws.{login_depicts, stays_seated, others_stay, at_same, owner_now, accepted_code}
 use Rattle.pr_core.proofs.state.State.login.Goals as goal
 use Rattle.pr_core.proofs.state.State.login.Goals.{else-is_full-via-then-is_full+else-not-is_known, else-is_full-via-else-is_full}
 
@@ -16,16 +16,16 @@ invariant_of-self-clause-seated c n registered =
     let before = seat_of c.args.self.now.seats in
     rw c.log_in.ensures.seat (stays_seated before c.args.nexus (logged_in c.args.who c.args.nexus (before c.args.nexus)) n (c.args.self.now.seated n registered))
 
-pub returns-clause-makes : goal.returns-clause-makes
-returns-clause-makes c blocks w shows =
+pub returns-clause-enters : goal.returns-clause-enters
+returns-clause-enters c w depicts =
     let self = c.args.self.now in
     let nobody : is_some (owner_at self c.args.nexus) ≡ false = ap is_some (sym c.owner.ensures) ∙ sym c.is_some.ensures ∙ c.if-is_some.false in
     let room : (is_some (seat_of self.seats c.args.nexus) ≡ true) ⊎ (not (nat_lt (count_of self.seats) KNOWN) ≡ false) = elim c.else-is_full.branch [
       | else-is_full-via-then-is_full+else-not-is_known v ↦ inl (sym v.is_known.ensures ∙ v.if-not-is_known.false)
       | else-is_full-via-else-is_full v ↦ inr (sym c.is_full.ensures ∙ v.if-is_full.false)
     ] in
-    let code : login_code w c.args.version c.args.nexus ≡ 0 = accepted_code self w c.args.version c.args.nexus shows c.if-version-ne1.false c.if-nexus-eq0.false c.if-nexus-gt16.false nobody room in
-    (ap Login_code (sym code), rw code (login_shows self _ c.args.who c.args.nexus refl c.log_in.ensures.seat c.log_in.ensures.count w shows))
+    let code : login_code w c.args.version c.args.nexus ≡ 0 = accepted_code self w c.args.version c.args.nexus depicts c.if-version-ne1.false c.if-nexus-eq0.false c.if-nexus-gt16.false nobody room in
+    (ap Login_code (sym code), rw code (login_depicts self _ c.args.who c.args.nexus refl c.log_in.ensures.seat c.log_in.ensures.count w depicts))
 
 pub returns-clause-accepted : goal.returns-clause-accepted
 returns-clause-accepted c done =

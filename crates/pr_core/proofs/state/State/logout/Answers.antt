@@ -2,15 +2,15 @@ use Rattle.std.proofs.Common.{Option, option_map, unwrap_or, refl, sym, ap, ◌�
 use Rattle.pr_words.specs.declared.nexus.Nexus.{Nexus}
 use Rattle.pr_core.specs.declared.seats.Seat.{Seat}
 use Rattle.pr_core.specs.Seats.{seat_of, owner_in, logged_out}
-use Rattle.pr_core.proofs.StateLaws.{logout_shows, seated_same, others_stay}
+use Rattle.pr_core.proofs.StateLaws.{logout_depicts, seated_same, others_stay}
 use Rattle.pr_core.proofs.state.State.logout.Goals as goal
 
 pub invariant_of-self-clause-seated : goal.invariant_of-self-clause-seated
 invariant_of-self-clause-seated c n registered = rw c.log_out.ensures.seat (seated_same logged_out (seat_of c.args.self.now.seats) c.args.nexus n ∙ c.args.self.now.seated n registered)
 
-pub returns-clause-makes : goal.returns-clause-makes
-returns-clause-makes c blocks w shows =
-    ((ap (λ v. v.owner c.args.nexus) shows.world ∙ c.requires, refl), logout_shows c.args.self.now _ c.args.nexus refl c.log_out.ensures.seat c.log_out.ensures.count w shows)
+pub returns-clause-enters : goal.returns-clause-enters
+returns-clause-enters c w depicts =
+    ((ap (λ v. v.owner c.args.nexus) depicts.world ∙ c.requires, refl), logout_depicts c.args.self.now _ c.args.nexus refl c.log_out.ensures.seat c.log_out.ensures.count w depicts)
 
 pub returns-clause-others : goal.returns-clause-others
 returns-clause-others c other n differs owned =

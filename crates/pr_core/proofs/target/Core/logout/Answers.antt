@@ -3,4 +3,4 @@ use Rattle.pr_core.proofs.Entering.{extends_one}
 use Rattle.pr_core.proofs.target.Core.logout.Goals as goal
 
 pub returns-clause-entry : goal.returns-clause-entry
-returns-clause-entry g c = extends_one _ _ _ refl c.logout.ensures.makes
+returns-clause-entry g c = extends_one _ _ _ refl refl c.logout.ensures.enters
