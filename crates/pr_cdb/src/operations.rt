@@ -34,7 +34,17 @@ pub fn class(op: u8) -> Class
         Some(OperationCode::Read10 | OperationCode::Read16) => Class::Reads,
         Some(OperationCode::Write10 | OperationCode::Write16 | OperationCode::SynchronizeCache10) =>
             Class::Writes,
-        _ => Class::Free,
+        Some(
+            OperationCode::TestUnitReady
+            | OperationCode::RequestSense
+            | OperationCode::Inquiry
+            | OperationCode::ReadCapacity10
+            | OperationCode::ReserveIn
+            | OperationCode::ReserveOut
+            | OperationCode::ReadCapacity16
+            | OperationCode::ReportLuns,
+        )
+        | None => Class::Free,
     }
 }
 
