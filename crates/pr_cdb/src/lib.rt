@@ -7,7 +7,7 @@ mod writing;
 
 pub use operations::{class, is_unconditional, operation};
 pub use pr_grammar::{Cdb, CdbFault, Class, Command, OperationCode};
-pub use reading::read;
+pub use reading::{read, read_as};
 pub use writing::write;
 
 #[cfg(test)]

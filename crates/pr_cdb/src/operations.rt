@@ -1,5 +1,5 @@
 ghost use Rattle.std.specs.Prelude.{◌≡◌};
-ghost use Rattle.pr_grammar.specs.Operations.{operation_at, class_of, is_unconditional as spec_unconditional};
+ghost use Rattle.pr_grammar.specs.Operations.{operation_at, class_of, unconditional_in};
 
 use pr_grammar::{Class, OperationCode};
 
@@ -38,13 +38,13 @@ pub fn class(op: u8) -> Class
     }
 }
 
-/// Whether the command with this operation code is for every logical unit, there or not, and passes a unit attention
+/// Whether a command with this operation code, or with none of the table, is for every logical unit, there or not, and passes a unit attention
 /// (SPC-4, SAM-5): INQUIRY, REPORT LUNS and REQUEST SENSE.
-pub fn is_unconditional(op: u8) -> bool
-    ensures { result ≡ spec_unconditional op }
+pub fn is_unconditional(operation: Option<OperationCode>) -> bool
+    ensures { result ≡ unconditional_in operation }
 {
     matches!(
-        operation(op),
+        operation,
         Some(OperationCode::Inquiry | OperationCode::ReportLuns | OperationCode::RequestSense)
     )
 }

@@ -1,6 +1,6 @@
-ghost use Rattle.std.specs.Prelude.{◌≡◌, ◌≤◌, ◌<◌, length};
+ghost use Rattle.std.specs.Prelude.{◌≡◌, ◌≤◌, ◌<◌, Some, length};
 ghost use Rattle.pr_grammar.specs.Operations.{row_of};
-ghost use Rattle.pr_grammar.specs.Cdbs.{command_by, read_cdb};
+ghost use Rattle.pr_grammar.specs.Cdbs.{command_by, read_by, read_cdb};
 
 use crate::operation;
 use pr_grammar::{Cdb, CdbFault, Command, OperationCode};
@@ -18,9 +18,20 @@ pub fn read(bytes: &[u8]) -> Result<Cdb, CdbFault>
     ensures { result ≡ read_cdb bytes.now }
 {
     let op = bytes[0];
-    let Some(operation) = operation(op) else {
-        return Err(CdbFault::Unknown { op });
-    };
+    match operation(op) {
+        Some(operation) => read_as(operation, bytes),
+        None => Err(CdbFault::Unknown { op }),
+    }
+}
+
+/// The same, where the operation code was looked at before.
+///
+/// # Errors
+///
+/// `CdbFault::Short` where there are fewer bytes than a CDB with this operation code has.
+pub fn read_as(operation: OperationCode, bytes: &[u8]) -> Result<Cdb, CdbFault>
+    ensures { result ≡ read_by (Some operation) bytes.now }
+{
     let need = length_of(operation);
     if bytes.len() < need {
         return Err(CdbFault::Short {

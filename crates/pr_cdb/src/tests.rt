@@ -173,7 +173,7 @@ fn other_operation_codes_are_unknown(rt: HostRuntime) {
     for op in [
         0x01, 0x08, 0x0A, 0x16, 0x17, 0x2F, 0x5D, 0x60, 0x89, 0x91, 0xA1, 0xFF,
     ] {
-        assert!(rt; operation(op).is_none() && class(op) == Class::Free && !is_unconditional(op));
+        assert!(rt; operation(op).is_none() && class(op) == Class::Free && !is_unconditional(operation(op)));
         assert!(rt; read(&[op]) == Err(CdbFault::Unknown { op }));
         assert!(rt; read(&[op; 16]) == Err(CdbFault::Unknown { op }));
     }
@@ -199,6 +199,6 @@ fn operation_codes_have_the_rows_of_the_standard(rt: HostRuntime) {
     for (op, asks, unconditional) in table {
         assert!(rt; operation(op).is_some());
         assert!(rt; class(op) == asks);
-        assert!(rt; is_unconditional(op) == unconditional);
+        assert!(rt; is_unconditional(operation(op)) == unconditional);
     }
 }

@@ -1,52 +1,79 @@
--- A CDB that was read passes its checks.
-use Rattle.std.proofs.Common.{◌≡◌, ℕ, ◌-◌, ◌==◌, ◌&&◌, Bool, true, false, not, cond, ltb, List, length, refl, sym, ap, ◌∙◌, Ok, Err, Option, Some, None}
-use Rattle.std.proofs.lemmas.Bool.{ltb-false, or_parts}
-use Rattle.pr_grammar.specs.declared.cdb.Cdb.{Cdb}
-use Rattle.pr_grammar.specs.declared.cdb.Command.{Command}
-use Rattle.pr_grammar.specs.declared.cdb.Command.TheVariants as commands
-use Rattle.pr_grammar.specs.declared.cdb.CdbFault.{CdbFault}
-use Rattle.pr_grammar.specs.declared.operation.OperationCode.{OperationCode}
-use Rattle.pr_grammar.specs.Operations.{row_of, operation_at, length_in, length_of}
-use Rattle.pr_grammar.specs.Cdbs.{operation_code, is_naca, command_by, command_in, command_of, read_by, read_cdb}
-use Rattle.pr_model.specs.Commands.{is_served, is_reservable, has_bad_field}
-use Rattle.pr_core.specs.Admits.{PassesCdb, FitsCdb}
+-- Checks that pass or refuse, group by group.
+use Rattle.std.proofs.Common.{◌≡◌, ◌⊎◌, inl, inr, ℕ, ◌==◌, Bool, true, false, not, cond, List, [], ◌∷◌, ◌++◌, length, refl, sym, ap, ◌∙◌, subst, lit<, arith, Ok, Err, Option, Some, None}
+use Rattle.std.proofs.lemmas.Bool.Decides.{nat_tests}
+use Rattle.pr_words.specs.declared.service.OutService.{OutService}
+use Rattle.pr_words.specs.Services.{out_service_code}
+use Rattle.pr_grammar.specs.declared.cdb.Command.TheVariants.{ReserveOut}
+use Rattle.pr_grammar.specs.declared.param.OutList.{OutList}
+use Rattle.pr_grammar.specs.declared.param.ParamFault.{ParamFault}
+use Rattle.pr_grammar.specs.declared.param.ParamFault.TheVariants.{Length}
+use Rattle.pr_grammar.specs.OutLists.{list_of, read_list}
+use Rattle.pr_model.specs.Worlds.{World}
+use Rattle.pr_model.specs.Commands.{Answer, answer, checking, refused_where, first_or, has_bad_service, has_bad_list, length_check, command_checks, list_length_error, invalid_list, served}
+use Rattle.pr_core.specs.declared.admitted.Admitted.TheVariants as admitted
+use Rattle.pr_core.specs.Passing.{Pass, Give, PassesCommand}
 
--- what was read of a CDB
-record WasRead (cdb : List ℕ) (found : Cdb) : Type 0 where
-  command : found.command ≡ command_of (operation_code cdb) cdb
-  naca : found.naca ≡ is_naca (length_of (operation_code cdb) - 1) cdb
-  whole : ltb (length cdb) (length_of (operation_code cdb)) ≡ false
+-- checks, and then others
+pub first-append : (xs ys : List (Option Answer)) (last : Answer) → first_or (xs ++ ys) last ≡ first_or xs (first_or ys last)
+first-append [] ys last = refl
+first-append (None ∷ xs) ys last = first-append xs ys last
+first-append (Some a ∷ xs) ys last = refl
 
-was_ok : (short : Bool) (v found : Cdb) (f : CdbFault) → cond short (Err f) (Ok v) ≡ Ok found → (short ≡ false) × (found ≡ v)
-was_ok true v found f is = absurd cc
-was_ok false v found f is = (refl, cc)
+pub passed : (xs ys : List (Option Answer)) (last : Answer) → Pass xs → first_or (xs ++ ys) last ≡ first_or ys last
+passed xs ys last pass = first-append xs ys last ∙ pass (first_or ys last)
 
-was_read_by : (o : Option OperationCode) (op : ℕ) (cdb : List ℕ) (found : Cdb) → read_by o cdb ≡ Ok found
-    → (ltb (length cdb) (length_in o op) ≡ false) × (found ≡ record { command = command_in o cdb; naca = is_naca (length_in o op - 1) cdb })
-was_read_by None op cdb found is = absurd cc
-was_read_by (Some o) op cdb found is = was_ok (ltb (length cdb) (row_of o).size) (record { command = command_by o cdb; naca = is_naca ((row_of o).size - 1) cdb }) found _ is
+pub given : (xs ys : List (Option Answer)) (a last : Answer) → Give xs a → first_or (xs ++ ys) last ≡ a
+given xs ys a last give = first-append xs ys last ∙ give (first_or ys last)
 
-was_read : (cdb : List ℕ) (found : Cdb) → read_cdb cdb ≡ Ok found → WasRead cdb found
-was_read cdb found is =
-    let parts = was_read_by (operation_at (operation_code cdb)) (operation_code cdb) cdb found is in
-    record { command = ap (λ (v : Cdb). v.command) parts.1; naca = ap (λ (v : Cdb). v.naca) parts.1; whole = parts.0 }
+-- what was read of a parameter list
+read_parts : (b : Bool) (f : ParamFault) (l m : OutList) → cond (not b) (Err f) (Ok m) ≡ Ok l → (b ≡ true) × (l ≡ m)
+read_parts true f l m is = (refl, cc)
+read_parts false f l m is = absurd cc
 
-fits_cdb : (command : Command) → has_bad_field command ≡ false → FitsCdb command
-fits_cdb (commands.ReserveOut action scope kind list) field = ltb-false 6 action (or_parts (ltb 6 action) (action == 1 && not (is_reservable scope kind)) field).0
-fits_cdb commands.TestUnitReady field = tt
-fits_cdb (commands.RequestSense descriptor allocation) field = tt
-fits_cdb (commands.Inquiry vital page allocation) field = tt
-fits_cdb commands.ReadCapacity10 field = tt
-fits_cdb (commands.ReadCapacity16 action allocation) field = tt
-fits_cdb (commands.ReportLuns select allocation) field = tt
-fits_cdb (commands.Read wide protect lba count) field = tt
-fits_cdb (commands.Write wide protect lba count) field = tt
-fits_cdb (commands.SynchronizeCache lba count) field = tt
-fits_cdb (commands.ReserveIn action allocation) field = tt
+not_refused : (b : Bool) (a : Answer) → cond (not b) (Some a) None ≡ None → b ≡ true
+not_refused true a is = refl
+not_refused false a is = absurd cc
 
-pub cdb_passes : (cdb : List ℕ) (found : Cdb) → is_served (operation_code cdb) ≡ true → read_cdb cdb ≡ Ok found → found.naca ≡ false → has_bad_field found.command ≡ false → PassesCdb cdb (Ok found.command)
-cdb_passes cdb found served is naca field =
-    let read : WasRead cdb found = was_read cdb found is in
-    let whole : ltb (length cdb) (length_of (operation_code cdb)) ≡ false = read.whole in
-    let bit : is_naca (length_of (operation_code cdb) - 1) cdb ≡ false = sym read.naca ∙ naca in
-    (read.command, fits_cdb found.command field, λ w others last. rw (served, whole, bit, field) refl)
+same_number : (a b c : ℕ) → (a == b) ≡ true → (a == c) ≡ true → (b == c) ≡ true
+same_number a b c e f = grind (arith, nat_tests)
+
+-- a PERSISTENT RESERVE OUT whose fields and whose length are right, and whose list was read
+pub record ReadsList (action scope kind len : ℕ) (sent : List ℕ) (service : OutService) (list : OutList) : Type 0 where
+  pub named : out_service_code service ≡ action
+  pub fit : has_bad_service (out_service_code service) scope kind ≡ false
+  pub announced : (w : World) → length_check w len sent ≡ None
+  pub read : read_list sent ≡ Ok list
+
+-- the checks that are left
+past_length : (action scope kind len : ℕ) (sent : List ℕ) (service : OutService) (list : OutList) (w : World) (last : Answer) → ReadsList action scope kind len sent service list
+    → first_or (command_checks w (ReserveOut action scope kind len) sent) last
+    ≡ first_or (refused_where (has_bad_list (out_service_code service) list) w invalid_list ∷ refused_where list.aptpl w invalid_list ∷ []) last
+past_length action scope kind len sent service list w last r =
+    let parts = read_parts (length sent == 24) (Length (length sent)) list (list_of sent) r.read in
+    let long : (length sent == len) ≡ true = not_refused (length sent == len) (answer w (checking list_length_error)) (r.announced w) in
+    let whole : (len == 24) ≡ true = same_number (length sent) len 24 long parts.0 in
+    let fit : has_bad_service action scope kind ≡ false = subst (λ (a : ℕ). has_bad_service a scope kind ≡ false) r.named r.fit in
+    rw (fit, long, whole, parts.1, r.named) refl
+
+pub list_passes : (action scope kind len : ℕ) (sent : List ℕ) (service : OutService) (list : OutList) → ReadsList action scope kind len sent service list → has_bad_list (out_service_code service) list ≡ false → list.aptpl ≡ false
+    → PassesCommand (ReserveOut action scope kind len) sent (Ok (admitted.ReserveOut (record { service = service; scope = scope; kind = kind }) list))
+list_passes action scope kind len sent service list r good transient = (
+  (len, ap (λ (a : ℕ). ReserveOut a scope kind len) (sym r.named), (read_parts (length sent == 24) (Length (length sent)) list (list_of sent) r.read).1),
+  λ w last. past_length action scope kind len sent service list w last r ∙ (rw (good, transient) refl),
+)
+
+pub list_fails : (action scope kind len : ℕ) (sent : List ℕ) (service : OutService) (list : OutList) → ReadsList action scope kind len sent service list → (bad : Bool) → has_bad_list (out_service_code service) list ≡ bad → (bad ≡ true) ⊎ (list.aptpl ≡ true)
+    → PassesCommand (ReserveOut action scope kind len) sent (Err invalid_list)
+list_fails action scope kind len sent service list r bad is fails = (
+  lit< tt,
+  λ w n lun.
+      past_length action scope kind len sent service list w (served w n lun (ReserveOut action scope kind len) sent) r
+      ∙ ap (λ (b : Bool). first_or (refused_where b w invalid_list ∷ refused_where list.aptpl w invalid_list ∷ []) (served w n lun (ReserveOut action scope kind len) sent)) is
+      ∙ by w n lun bad fails,
+)
+  where
+    by : (w : World) (n : _) (lun : ℕ) (b : Bool) → (b ≡ true) ⊎ (list.aptpl ≡ true)
+        → first_or (refused_where b w invalid_list ∷ refused_where list.aptpl w invalid_list ∷ []) (served w n lun (ReserveOut action scope kind len) sent) ≡ answer w (checking invalid_list)
+    by w n lun true f = refl
+    by w n lun false (inl e) = absurd cc
+    by w n lun false (inr e) = rw e refl

@@ -9,18 +9,16 @@ use Rattle.pr_words.specs.declared.code.Status.TheVariants as status
 use Rattle.pr_words.specs.Orders.{same_nexus}
 use Rattle.pr_grammar.specs.Standings.{Standing, is_registered}
 use Rattle.pr_grammar.specs.declared.param.OutList.{OutList}
-use Rattle.pr_grammar.specs.declared.param.ParamFault.{ParamFault}
-use Rattle.pr_grammar.specs.OutLists.{list_of, read_list}
 use Rattle.pr_model.specs.Limits.{LIMIT}
 use Rattle.pr_model.specs.Acts.{Acted, Verdict as Verdicts, Good, Conflict, Bad, ReserveOut, acted}
 use Rattle.pr_model.specs.Attentions.{with_code, raised_any, is_other, told}
 use Rattle.pr_model.specs.Worlds.{World}
 use Rattle.pr_model.specs.Entries.{Out}
-use Rattle.pr_model.specs.Commands.{answer, good, conflict, checking, asked, by_verdict, reserve_out}
+use Rattle.pr_model.specs.Commands.{answer, good, conflict, checking, by_verdict, reserve_out}
 use Rattle.pr_model.proofs.Orders.{same_is}
 use Rattle.pr_model.proofs.Reaching.{acted_knows, acted_reaches}
 use Rattle.pr_table.specs.Tables.{standing_of, limit_of}
-use Rattle.pr_table.specs.declared.request.OutAction.{OutAction}
+use Rattle.pr_table.specs.declared.request.OutRequest.{OutRequest}
 use Rattle.pr_table.specs.declared.verdict.Verdict.{Verdict}
 use Rattle.pr_table.specs.Told as table
 use Rattle.pr_table.specs.Told.{Does}
@@ -176,19 +174,12 @@ reserves_good old new n o result standing tells count is told_it w depicts =
       λ buf. ap (λ (s : Standing). reserve_out w n (acted LIMIT s n o)) (standing_in old w depicts) ∙ accepted w n a is ∙ ap (λ (r : CommandOut). answer (next w n a) (out_of r buf)) (sym told_it),
     )
 
-was_list : (b : Bool) (f : ParamFault) (l m : OutList) → b ≡ true → cond (not b) (Err f) (Ok m) ≡ Ok l → l ≡ m
-was_list true f l m e is = cc
-was_list false f l m e is = absurd (false≢true e)
-
-list_read : (sent : List ℕ) (l : OutList) → length sent ≡ 24 → read_list sent ≡ Ok l → l ≡ list_of sent
-list_read sent l long is = was_list (length sent == 24) _ l (list_of sent) (rw long refl) is
-
--- what the table did, in the words of the command
-pub does_here : (old : State) (n : Nexus) (action : OutAction) (l : OutList) (sent : List ℕ) (result : Verdict) (now : Standing) (gone : List Pair) → length sent ≡ 24 → read_list sent ≡ Ok l
-    → Does (acted (limit_of old.table) (standing_of old.table) n (table.asked action l)) result now gone → Does (acted LIMIT (standing_of old.table) n (asked action.action action.scope action.kind (list_of sent))) result now gone
-does_here old n action l sent result now gone long is does =
-    subst (λ (k : ℕ). Does (acted k (standing_of old.table) n (asked action.action action.scope action.kind (list_of sent))) result now gone) old.limit
-    (subst (λ (x : OutList). Does (acted (limit_of old.table) (standing_of old.table) n (asked action.action action.scope action.kind x)) result now gone) (list_read sent l long is) does)
+-- what the table did, at the target's limit
+pub does_here : (old : State) (n : Nexus) (request : OutRequest) (list : OutList) (result : Verdict) (now : Standing) (gone : List Pair)
+    → Does (acted (limit_of old.table) (standing_of old.table) n (table.requested request list)) result now gone
+    → Does (acted LIMIT (standing_of old.table) n (table.requested request list)) result now gone
+does_here old n request list result now gone does =
+    subst (λ (k : ℕ). Does (acted k (standing_of old.table) n (table.requested request list)) result now gone) old.limit does
 
 -- what the table did, in the core's words
 pub record Served (old : State) (n : Nexus) (o : ReserveOut) (standing : Standing) (gone : List Pair) : Type 0 where

@@ -1,16 +1,21 @@
 -- Which worlds a core stands for, and which entries it has made.
 use Rattle.std.specs.Prelude.{◌≡◌, ℕ, Option}
 use Rattle.pr_words.specs.declared.nexus.Nexus.{Nexus}
-use Rattle.pr_model.specs.Worlds.{World}
+use Rattle.pr_model.specs.Keeping.{Kept, Nothing}
+use Rattle.pr_model.specs.Worlds.{World, Blocks, opened}
 use Rattle.pr_model.specs.Entries.{History}
-use Rattle.pr_model.specs.Keeping.{Kept}
 use Rattle.pr_model.specs.Histories.{after, IsLegalFrom}
 use Rattle.pr_io.specs.declared.outside.Medium as media
 use Rattle.pr_io.specs.declared.outside.Disk as disks
 use Rattle.pr_core.specs.declared.target.Core.{Core}
+use Rattle.pr_core.specs.declared.target.Room.{Room}
 use Rattle.pr_core.specs.States.{Depicts, owner_at, KeepsOthersAt}
 
 -- crates above cite these words and don't look into them
+
+-- nobody is known in it and nothing is registered
+abbrev pub IsVacant : Room → Type 0
+IsVacant r = (m : Blocks) → Depicts r.state (opened m Nothing)
 
 -- the world's medium has as many blocks as the core's; what stands in them isn't looked at yet
 abbrev pub StandsFor : {M D : Type 0} {gm : media.Ghosts M} {gd : disks.Ghosts D} → Core M D gm gd → World → Type 0

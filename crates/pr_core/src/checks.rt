@@ -1,133 +1,171 @@
 //! The checks of a command, in their order: each answers the code of its refusal.
 
-ghost use Rattle.std.specs.Prelude.{◌≡◌, ◌<◌, ◌-◌, ◌==◌, ℕ, false, length};
+ghost use Rattle.std.specs.Prelude.{◌≡◌, ◌<◌, ℕ, Some, length};
+ghost use Rattle.pr_words.specs.Services.{out_service_code};
+ghost use Rattle.pr_grammar.specs.Operations.{operation_at, unconditional_in};
+ghost use Rattle.pr_grammar.specs.Cdbs.{operation_code};
+ghost use Rattle.pr_model.specs.Commands.{has_bad_list};
 ghost use Rattle.pr_model.specs.Commands as model;
-ghost use Rattle.pr_core.specs.Admits.{PassesCdb, PassesData};
+ghost use Rattle.pr_core.specs.Passing.{PassesOperation, PassesForm, PassesCommand, PassesLength};
 
-use pr_cdb::{Command, OperationCode, is_unconditional, operation, read};
+use crate::admitted::Admitted;
+use pr_cdb::{Command, OperationCode, is_unconditional, read_as};
 use pr_param::read_out_list;
-use pr_words::{Code, Kind};
-
-/// LOGICAL UNIT NOT SUPPORTED.
-pub const UNSUPPORTED_UNIT: Code = Code {
-    key: 5,
-    asc: 0x25,
-    ascq: 0,
-};
-
-/// INVALID COMMAND OPERATION CODE.
-pub const INVALID_OPERATION: Code = Code {
-    key: 5,
-    asc: 0x20,
-    ascq: 0,
-};
-
-/// INVALID FIELD IN CDB.
-const INVALID_FIELD: Code = Code {
-    key: 5,
-    asc: 0x24,
-    ascq: 0,
-};
-
-/// PARAMETER LIST LENGTH ERROR.
-const LIST_LENGTH: Code = Code {
-    key: 5,
-    asc: 0x1A,
-    ascq: 0,
-};
-
-/// INVALID FIELD IN PARAMETER LIST.
-const INVALID_LIST: Code = Code {
-    key: 5,
-    asc: 0x26,
-    ascq: 0,
-};
+use pr_table::{OutList, OutRequest};
+use pr_words::{Code, InService, Kind, OutService};
 
 /// Whether a command is for a logical unit that isn't there, other than 0.
-pub fn is_elsewhere(lun: u16, op: u8) -> bool
-    ensures { result ≡ model.is_elsewhere lun op }
+pub fn is_elsewhere(lun: u16, operation: Option<OperationCode>) -> bool
+    ensures { (op : ℕ) → operation ≡ operation_at op → result ≡ model.is_elsewhere lun op }
 {
-    lun != 0 && !is_unconditional(op)
+    lun != 0 && !is_unconditional(operation)
 }
 
-fn is_served(op: u8) -> bool
-    ensures { result ≡ model.is_served op }
+/// The check of the operation code: whether its command is served yet.
+pub fn check_operation(operation: Option<OperationCode>) -> Result<OperationCode, Code>
+    ensures { PassesOperation operation result }
 {
-    matches!(
-        operation(op),
-        Some(
-            OperationCode::TestUnitReady
-                | OperationCode::RequestSense
-                | OperationCode::ReserveIn
-                | OperationCode::ReserveOut
-        )
-    )
+    let Some(operation) = operation else {
+        return Err(Code::INVALID_COMMAND_OPERATION_CODE);
+    };
+    match operation {
+        OperationCode::TestUnitReady
+        | OperationCode::RequestSense
+        | OperationCode::ReserveIn
+        | OperationCode::ReserveOut => Ok(operation),
+        OperationCode::Inquiry
+        | OperationCode::ReadCapacity10
+        | OperationCode::Read10
+        | OperationCode::Write10
+        | OperationCode::SynchronizeCache10
+        | OperationCode::Read16
+        | OperationCode::Write16
+        | OperationCode::ReadCapacity16
+        | OperationCode::ReportLuns => Err(Code::INVALID_COMMAND_OPERATION_CODE),
+    }
 }
 
-/// Whether the command's own fields ask for what isn't supported.
-fn has_bad_field(command: &Command) -> bool
-    ensures { result ≡ model.has_bad_field command.now }
+/// The checks of a CDB's form: its length, and NACA.
+pub fn check_form(operation: OperationCode, cdb: &[u8]) -> Result<Command, Code>
+    requires { operation_at (operation_code cdb.now) ≡ Some operation }
+    ensures { PassesForm operation cdb.now result }
+{
+    match read_as(operation, cdb) {
+        Ok(found) if !found.naca => Ok(found.command),
+        _ => Err(Code::INVALID_FIELD_IN_CDB),
+    }
+}
+
+/// The check of the data-out's length.
+fn check_length(announced: usize, sent: &[u8]) -> Result<(), Code>
+    ensures { PassesLength announced sent.now result }
+{
+    if sent.len() == announced {
+        Ok(())
+    } else {
+        Err(Code::PARAMETER_LIST_LENGTH_ERROR)
+    }
+}
+
+/// A command's own checks: its fields, its data-out's length, and its parameter list.
+pub fn check_command(command: Command, sent: &[u8]) -> Result<Admitted, Code>
+    ensures { PassesCommand command sent.now result }
 {
     match command {
-        Command::ReserveIn { action, .. } => *action > 3,
+        Command::TestUnitReady => {
+            check_length(0, sent)?;
+            Ok(Admitted::TestUnitReady)
+        }
+        Command::RequestSense {
+            descriptor,
+            allocation,
+        } => {
+            check_length(0, sent)?;
+            Ok(Admitted::RequestSense {
+                descriptor,
+                allocation,
+            })
+        }
+        Command::ReserveIn { action, allocation } => check_reserve_in(action, allocation, sent),
         Command::ReserveOut {
             action,
             scope,
             kind,
-            ..
-        } => *action > 6 || (*action == 1 && (*scope != 0 || Kind::of(*kind).is_none())),
-        _ => false,
-    }
-}
-
-/// The checks by the CDB alone: its operation code, its length, NACA, and the command's own fields.
-pub fn check_cdb(cdb: &[u8]) -> Result<Command, Code>
-    requires { 0 < length cdb.now }
-    ensures { PassesCdb cdb.now result }
-{
-    if !is_served(cdb[0]) {
-        return Err(INVALID_OPERATION);
-    }
-    let Ok(found) = read(cdb) else {
-        return Err(INVALID_FIELD);
-    };
-    if found.naca || has_bad_field(&found.command) {
-        return Err(INVALID_FIELD);
-    }
-    Ok(found.command)
-}
-
-/// The checks by the data-out: its length, and what the parameter list asks for.
-pub fn check_data(command: &Command, sent: &[u8]) -> Result<(), Code>
-    ensures { PassesData command.now sent.now result }
-{
-    match command {
-        Command::ReserveOut { action, length, .. } => check_list(*action, *length, sent),
-        _ => {
-            if sent.is_empty() {
-                Ok(())
-            } else {
-                Err(LIST_LENGTH)
-            }
+            length,
+        } => check_reserve_out(action, scope, kind, length, sent),
+        Command::Inquiry { .. }
+        | Command::ReadCapacity10
+        | Command::ReadCapacity16 { .. }
+        | Command::ReportLuns { .. }
+        | Command::Read { .. }
+        | Command::Write { .. }
+        | Command::SynchronizeCache { .. } => {
+            check_length(0, sent)?;
+            Err(Code::INVALID_COMMAND_OPERATION_CODE)
         }
     }
 }
 
-/// The same of a PERSISTENT RESERVE OUT, by its service action and the list's announced length.
-fn check_list(action: u8, length: u32, sent: &[u8]) -> Result<(), Code>
-    ensures { (scope kind : ℕ) → PassesData (Command.ReserveOut action scope kind length) sent.now result }
+/// The checks of a PERSISTENT RESERVE IN.
+fn check_reserve_in(action: u8, allocation: u16, sent: &[u8]) -> Result<Admitted, Code>
+    ensures { PassesCommand (Command.ReserveIn action allocation) sent.now result }
 {
-    if sent.len() != length as usize {
-        return Err(LIST_LENGTH);
-    }
-    let Ok(list) = read_out_list(sent) else {
-        return Err(LIST_LENGTH);
+    let Some(service) = InService::of(action) else {
+        return Err(Code::INVALID_FIELD_IN_CDB);
     };
-    if list.spec_i_pt || list.aptpl {
-        return Err(INVALID_LIST);
+    check_length(0, sent)?;
+    Ok(Admitted::ReserveIn {
+        service,
+        allocation,
+    })
+}
+
+/// The checks of a PERSISTENT RESERVE OUT.
+fn check_reserve_out(
+    action: u8,
+    scope: u8,
+    kind: u8,
+    length: u32,
+    sent: &[u8],
+) -> Result<Admitted, Code>
+    ensures { PassesCommand (Command.ReserveOut action scope kind length) sent.now result }
+{
+    let Some(service) = OutService::of(action) else {
+        return Err(Code::INVALID_FIELD_IN_CDB);
+    };
+    let request = OutRequest {
+        service,
+        scope,
+        kind,
+    };
+    if is_unreservable(&request) {
+        return Err(Code::INVALID_FIELD_IN_CDB);
     }
-    if list.all_tg_pt && (action == 0 || action == 6) {
-        return Err(INVALID_LIST);
+    check_length(length as usize, sent)?;
+    let Ok(list) = read_out_list(sent) else {
+        return Err(Code::PARAMETER_LIST_LENGTH_ERROR);
+    };
+    if list_is_bad(service, &list) || list.aptpl {
+        return Err(Code::INVALID_FIELD_IN_PARAMETER_LIST);
     }
-    Ok(())
+    Ok(Admitted::ReserveOut { request, list })
+}
+
+/// Whether a RESERVE has a scope that isn't the logical unit's, or a type that is none of the six.
+fn is_unreservable(request: &OutRequest) -> bool
+    ensures { result ≡ model.has_bad_service (out_service_code request.now.service) request.now.scope request.now.kind }
+{
+    matches!(request.service, OutService::Reserve)
+        && (request.scope != 0 || Kind::of(request.kind).is_none())
+}
+
+/// Whether a parameter list asks for SPEC_I_PT, or for ALL_TG_PT where a nexus registers.
+fn list_is_bad(service: OutService, list: &OutList) -> bool
+    ensures { result ≡ has_bad_list (out_service_code service) list.now }
+{
+    let registers = matches!(
+        service,
+        OutService::Register | OutService::RegisterAndIgnoreExistingKey
+    );
+    list.spec_i_pt || (list.all_tg_pt && registers)
 }

@@ -1,6 +1,7 @@
 //! The target's core: each call makes one entry of a legal history.
 #![tactic(auto)]
 
+mod admitted;
 mod answers;
 mod checks;
 mod commands;
@@ -9,4 +10,4 @@ mod state;
 mod target;
 
 pub use answers::{CommandOut, OpenFault};
-pub use target::{Core, Opening};
+pub use target::{Core, Opening, Room};

@@ -9,7 +9,7 @@ use crate::state::State;
 use pr_io::{Disk, Medium};
 use pr_table::Kept;
 use pr_words::Nexus;
-use std::alloc::Global;
+use std::alloc::{AllocError, Global};
 
 /// With what a target was opened: what its disk had kept, and how often its devices had failed.
 #[derive(Drop)]
@@ -17,6 +17,28 @@ pub struct Opening {
     pub kept: Kept,
     pub medium_faults: u64,
     pub disk_faults: u64,
+}
+
+/// The memory of a target in which nobody is known and nothing is registered: room for 64
+/// registrations and for 256 known nexuses.
+#[derive(Drop)]
+pub struct Room {
+    alloc: Global,
+    state: State,
+}
+
+impl Room {
+    ghost use Rattle.pr_core.specs.View.{IsVacant};
+
+    /// Takes the memory.
+    pub fn new(alloc: Global) -> Result<Room, AllocError>
+        ensures { IfOk result (λ r. IsVacant r) }
+    {
+        Ok(Room {
+            alloc,
+            state: State::new(alloc)?,
+        })
+    }
 }
 
 /// A target over a medium and a disk.
@@ -31,7 +53,7 @@ pub struct Core<M: Medium, D: Disk> {
 }
 
 impl<M: Medium, D: Disk> Core<M, D> {
-    ghost use Rattle.pr_core.specs.View.{StandsFor, medium_of, disk_of, blocks_of, opening_of, owner_of, KeepsOthers, Extends};
+    ghost use Rattle.pr_core.specs.View.{IsVacant, StandsFor, medium_of, disk_of, blocks_of, opening_of, owner_of, KeepsOthers, Extends};
 
     /// The target after a power-up that restored nothing. All memory is taken here: of 64
     /// registrations and of 256 known nexuses. Medium and disk aren't touched.
@@ -47,22 +69,35 @@ impl<M: Medium, D: Disk> Core<M, D> {
         ensures counts { IfOk result (λ c. (c.opening.medium_faults ≡ M.faults medium) × (c.opening.disk_faults ≡ D.faults disk)) }
         ensures parts { IfErr result (λ e. (e.1 ≡ medium) × (e.2 ≡ disk)) }
     {
-        let Ok(state) = State::new(alloc) else {
-            return Err((OpenFault::OutOfMemory, medium, disk));
-        };
+        match Room::new(alloc) {
+            Ok(room) => Ok(Core::open_in(room, medium, disk)),
+            Err(_) => Err((OpenFault::OutOfMemory, medium, disk)),
+        }
+    }
+
+    /// The same in memory that was taken before.
+    pub fn open_in(room: Room, medium: M, disk: D) -> Core<M, D>
+        requires { IsVacant room }
+        ensures stands { (m : Blocks) → m.count ≡ M.count medium → StandsFor result (opened m (opening_of result)) }
+        ensures opening { opening_of result ≡ Nothing }
+        ensures blocks { blocks_of result ≡ M.count medium }
+        ensures over { (medium_of result ≡ medium) × (disk_of result ≡ disk) }
+        ensures counts { (result.opening.medium_faults ≡ M.faults medium) × (result.opening.disk_faults ≡ D.faults disk) }
+    {
+        let Room { alloc, state } = room;
         let opening = Opening {
             kept: Kept::nothing(alloc),
             medium_faults: medium.faults(),
             disk_faults: disk.faults(),
         };
         let blocks = medium.blocks();
-        Ok(Core {
+        Core {
             medium,
             disk,
             blocks,
             opening,
             state,
-        })
+        }
     }
 
     /// The number of the lane or pass that has the nexus logged in.

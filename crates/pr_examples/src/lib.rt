@@ -1,20 +1,13 @@
-//! Worked examples, whose expected bytes come from outside the program.
+//! What only a test can say: runs over streams that fail, and those that end at a bound.
 //!
-//! Whole runs of the program's commands, over streams in memory: the layouts of the frames, of the
-//! CDBs (SPC-4) and of the sense data (SPC-4) are written out as hexadecimal text.
+//! Conversations, byte for byte, stand among the data of the crate `conversations`.
 #![tactic(auto)]
 
 #[cfg(test)]
 mod attentions;
 #[cfg(test)]
-mod commands;
+mod bounds;
 #[cfg(test)]
-mod lanes;
+mod faults;
 #[cfg(test)]
-mod reservations;
-#[cfg(test)]
-mod shows;
-#[cfg(test)]
-mod talk;
-#[cfg(test)]
-mod tests;
+mod streams;

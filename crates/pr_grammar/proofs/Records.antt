@@ -9,7 +9,7 @@ use Rattle.std.proofs.lemmas.List.Elements.{All-cons, All-head, All-tail}
 use Rattle.std.proofs.Math.Seq.{take-append-add}
 use Rattle.std.proofs.lemmas.Nat.{from_be_bytes-to_be_bytes_2}
 use Rattle.pr_words.specs.Fields.{number16_at}
-use Rattle.pr_grammar.specs.Schedules.{Record, Arrival, Step_of, Close_of, IsRecord, spelled_record, RecordFront, Partial, Faulty, Entire, can_begin, record_at, record_front, IsUnfinished, Cut, IsWhole, IsBroken, IsLong}
+use Rattle.pr_grammar.specs.Schedules.{Record, Arrival, Step_of, Close_of, IsRecord, spelled_record, RecordFront, Partial, Faulty, Entire, can_begin, record_at, record_front, IsUnfinished, Cut, IsWhole, IsBrokenAt, IsLong}
 
 arrival_front : (lanes lane a b : ℕ) (body rest : List ℕ) → from_be_bytes w16 (a ∷ b ∷ []) ≡ length body → lane < lanes
     → record_front lanes (lane ∷ 0 ∷ a ∷ b ∷ (body ++ rest)) ≡ Entire (Arrival lane body) rest
@@ -165,11 +165,11 @@ faulty_nothing : (lanes : ℕ) → 0 < lanes → record_front lanes [] ≡ Fault
 unfolding record_front
 faulty_nothing lanes some is = let known : ltb 0 lanes ≡ true = lt-ltb 0 lanes some in let partial = rw known at is in cc
 
-pub not_whole_and_broken : (lanes budget : ℕ) (all : List ℕ) → 0 < lanes → IsWhole lanes budget all → IsBroken lanes budget all → ⊥
-not_whole_and_broken lanes budget all some whole broken =
+pub not_whole_and_broken : (lanes budget place : ℕ) (all : List ℕ) → 0 < lanes → IsWhole lanes budget all → IsBrokenAt lanes budget all place → ⊥
+not_whole_and_broken lanes budget place all some whole broken =
     let is : take budget all ≡ all = take_all budget all whole.0 in
     let same = cut_once lanes all whole.1.0 broken.0 [] broken.1 whole.1.1 (subst (λ (w : List ℕ). Cut lanes w broken.0 broken.1) is broken.2) in
-    elim broken.3 [
+    elim broken.4 [
       | inl fault ↦ faulty_nothing lanes some (ap (record_front lanes) same.1 ∙ fault)
       | inr short ↦ absurd (omega (arith, ap length same.1, short.1))
     ]
@@ -177,13 +177,19 @@ not_whole_and_broken lanes budget all some whole broken =
 pub not_whole_and_long : (lanes budget : ℕ) (all : List ℕ) → IsWhole lanes budget all → IsLong lanes budget all → ⊥
 not_whole_and_long lanes budget all whole long = omega (arith, whole.0, long.0)
 
-pub not_broken_and_long : (lanes budget : ℕ) (all : List ℕ) → IsBroken lanes budget all → IsLong lanes budget all → ⊥
-not_broken_and_long lanes budget all broken long =
+pub not_broken_and_long : (lanes budget place : ℕ) (all : List ℕ) → IsBrokenAt lanes budget all place → IsLong lanes budget all → ⊥
+not_broken_and_long lanes budget place all broken long =
     let same = cut_once lanes (take budget all) broken.0 long.1.0 broken.1 long.1.1 broken.2 long.1.2 in
-    elim broken.3 [
+    elim broken.4 [
       | inl fault ↦ let partial = long.1.3 in let e : record_front lanes broken.1 ≡ record_front lanes long.1.1 = ap (record_front lanes) same.1 in cc
       | inr short ↦ absurd (omega (arith, short.0, long.0))
     ]
+
+-- it is broken at one place
+pub broken_once : (lanes budget one two : ℕ) (all : List ℕ) → IsBrokenAt lanes budget all one → IsBrokenAt lanes budget all two → one ≡ two
+broken_once lanes budget one two all first second =
+    let same = cut_once lanes (take budget all) first.0 second.0 first.1 second.1 first.2 second.2 in
+    first.3 ∙ ap (λ (records : List Record). length (flat_map spelled_record records)) same.0 ∙ sym second.3
 
 -- what ends the bytes behind a whole record ends all
 
@@ -210,11 +216,18 @@ cut_first lanes budget r later all records tail first cut =
     let is : take budget all ≡ spelled_record r ++ take (budget - length (spelled_record r)) later = ap (take budget) first.spelling ∙ looked_at budget r later first.fits in
     subst (λ (w : List ℕ). Cut lanes w (r ∷ records) tail) (sym is) (cut_more lanes _ r records tail first.valid cut)
 
-pub broken_more : (lanes budget : ℕ) (r : Record) (later all : List ℕ) → StandsFirst lanes budget r later all → IsBroken lanes (budget - length (spelled_record r)) later → IsBroken lanes budget all
-broken_more lanes budget r later all first broken =
+pub broken_more : (lanes budget place : ℕ) (r : Record) (later all : List ℕ) → StandsFirst lanes budget r later all → IsBrokenAt lanes (budget - length (spelled_record r)) later place
+    → IsBrokenAt lanes budget all (length (spelled_record r) + place)
+broken_more lanes budget place r later all first broken =
     let fits = first.fits in
     let size : length all ≡ length (spelled_record r) + length later = ap length first.spelling ∙ length-append (spelled_record r) later in
-    (r ∷ broken.0, broken.1, cut_first lanes budget r later all broken.0 broken.1 first broken.2, elim broken.3 [ inl fault ↦ inl fault | inr short ↦ inr (omega (arith, size, fits, short.0), short.1) ])
+    let behind : length (spelled_record r) + place ≡ length (flat_map spelled_record (r ∷ broken.0)) = omega (arith, length-append (spelled_record r) (flat_map spelled_record broken.0), broken.3) in (
+      r ∷ broken.0,
+      broken.1,
+      cut_first lanes budget r later all broken.0 broken.1 first broken.2,
+      behind,
+      elim broken.4 [ inl fault ↦ inl fault | inr short ↦ inr (omega (arith, size, fits, short.0), short.1) ],
+    )
 
 pub long_more : (lanes budget : ℕ) (r : Record) (later all : List ℕ) → StandsFirst lanes budget r later all → IsLong lanes (budget - length (spelled_record r)) later → IsLong lanes budget all
 long_more lanes budget r later all first long =

@@ -62,17 +62,17 @@ holds (Some kind) None n = true
 holds (Some kind) (Some holder) n = same_nexus holder n
 
 -- the type in the scope of the logical unit where the nexus holds, else zero (this project's own)
-abbrev pub held_code : Option Kind → Option Nexus → Nexus → ℕ
-held_code None holder n = 0
-held_code (Some kind) None n = kind_code kind
-held_code (Some kind) (Some holder) n = if same_nexus holder n then kind_code kind else 0
+abbrev pub type_byte : Option Kind → Option Nexus → Nexus → ℕ
+type_byte None holder n = 0
+type_byte (Some kind) None n = kind_code kind
+type_byte (Some kind) (Some holder) n = if same_nexus holder n then kind_code kind else 0
 
 -- key, R_HOLDER, type, RELATIVE TARGET PORT IDENTIFIER, ADDITIONAL DESCRIPTOR LENGTH, and the name as the SAS
 -- TransportID has it (this project's own choice of a protocol)
 abbrev pub descriptor : Option Kind → Option Nexus → Pair → List ℕ
 descriptor kind holder p =
     to_be_bytes w64 p.key.0
-    ++ (0 ∷ 0 ∷ 0 ∷ 0 ∷ bit (holds kind holder p.nexus) ∷ held_code kind holder p.nexus ∷ 0 ∷ 0 ∷ 0 ∷ 0 ∷ [])
+    ++ (0 ∷ 0 ∷ 0 ∷ 0 ∷ bit (holds kind holder p.nexus) ∷ type_byte kind holder p.nexus ∷ 0 ∷ 0 ∷ 0 ∷ 0 ∷ [])
     ++ to_be_bytes w16 p.nexus.port ++ (0 ∷ 0 ∷ 0 ∷ 24 ∷ 6 ∷ 0 ∷ 0 ∷ 0 ∷ []) ++ to_be_bytes w64 p.nexus.name
     ++ (0 ∷ 0 ∷ 0 ∷ 0 ∷ 0 ∷ 0 ∷ 0 ∷ 0 ∷ 0 ∷ 0 ∷ 0 ∷ 0 ∷ [])
 
@@ -177,27 +177,27 @@ read_full bytes =
 abbrev pub FitsPair : Pair → Type 0
 FitsPair p = (p.key.0 < 2 ^ 64) × (p.nexus.name < 2 ^ 64) × (p.nexus.port < 2 ^ 16)
 
-abbrev pub FitsFields : Standing → Type 0
-FitsFields s = (s.generation < 2 ^ 32) × (length s.pairs ≤ 65536) × All FitsPair s.pairs
+abbrev pub FitsReplies : Standing → Type 0
+FitsReplies s = (s.generation < 2 ^ 32) × (length s.pairs ≤ 65536) × All FitsPair s.pairs
 
 abbrev pub listed_keys : Standing → KeyList
 listed_keys s = record { generation = s.generation; keys = map (λ (p : Pair). p.key) s.pairs }
 
-abbrev pub held_of : List Pair → Option Kind → Option Nexus → Option (Key × ℕ)
-held_of pairs None holder = None
-held_of pairs (Some kind) None = Some (record { 0 = 0 }, kind_code kind)
-held_of pairs (Some kind) (Some holder) = Some (record { 0 = key_at pairs holder }, kind_code kind)
+abbrev pub told_held : List Pair → Option Kind → Option Nexus → Option (Key × ℕ)
+told_held pairs None holder = None
+told_held pairs (Some kind) None = Some (record { 0 = 0 }, kind_code kind)
+told_held pairs (Some kind) (Some holder) = Some (record { 0 = key_at pairs holder }, kind_code kind)
 
 abbrev pub told_reservation : Standing → Held
 told_reservation s =
-    record { generation = s.generation; held = held_of s.pairs (kind_of s.reservation) (holder_of s.reservation) }
+    record { generation = s.generation; held = told_held s.pairs (kind_of s.reservation) (holder_of s.reservation) }
 
 abbrev pub told_capabilities : Standing → Capabilities
 told_capabilities s = record { flags = 0x01; more = 0x80 + bit s.preserve; mask = 0xEA01 }
 
 abbrev pub told_entry : Option Kind → Option Nexus → Pair → FullEntry
 told_entry kind holder p =
-    record { key = p.key; holder = holds kind holder p.nexus; kind = held_code kind holder p.nexus; nexus = p.nexus }
+    record { key = p.key; holder = holds kind holder p.nexus; kind = type_byte kind holder p.nexus; nexus = p.nexus }
 
 abbrev pub listed_entries : Standing → FullList
 listed_entries s = record {

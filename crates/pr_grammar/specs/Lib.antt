@@ -7,6 +7,7 @@ pub mod InReplies
 pub mod Frames
 pub mod Bodies
 pub mod Schedules
+pub mod Pages
 pub mod Outputs
 pub mod Shows
 pub mod Laws

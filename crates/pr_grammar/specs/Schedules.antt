@@ -65,10 +65,11 @@ pub record Cut (lanes : ℕ) (bytes : List ℕ) (records : List Record) (tail : 
 abbrev pub IsWhole : ℕ → ℕ → List ℕ → Type 0
 IsWhole lanes budget all = (length all ≤ budget) × ((records : List Record) × Cut lanes all records [])
 
--- what is looked at breaks the grammar behind its whole records, or is all there is and ends inside a record
-abbrev pub IsBroken : ℕ → ℕ → List ℕ → Type 0
-IsBroken lanes budget all =
+-- behind its whole records, which end at this place, what is looked at breaks the grammar, or is all there is and ends inside a record
+abbrev pub IsBrokenAt : ℕ → ℕ → List ℕ → ℕ → Type 0
+IsBrokenAt lanes budget all place =
     (records : List Record) × (tail : List ℕ) × Cut lanes (take budget all) records tail
+    × (place ≡ length (flat_map spelled_record records))
     × ((record_front lanes tail ≡ Faulty) ⊎ ((length all ≤ budget) × (0 < length tail)))
 
 -- there is more than is looked at, and what is looked at can be continued

@@ -16,14 +16,14 @@ abbrev pub AreFrames : Side → List ℕ → List Frame → List ℕ → Type 0
 AreFrames side bytes [] tail = bytes ≡ tail
 AreFrames side bytes (f ∷ more) tail = (rest : List ℕ) × (front side bytes ≡ Whole f rest) × AreFrames side rest more tail
 
-abbrev pub IsUnfinished : Front → Type 0
-IsUnfinished (Whole first rest) = ⊥
-IsUnfinished _ = Unit {0}
+abbrev pub IsNoFrame : Front → Type 0
+IsNoFrame (Whole first rest) = ⊥
+IsNoFrame _ = Unit {0}
 
 -- bytes are whole frames, and then a tail at whose front no whole frame stands
 pub record Framed (side : Side) (bytes : List ℕ) (frames : List Frame) (tail : List ℕ) : Type 0 where
   pub parts : AreFrames side bytes frames tail
-  pub unfinished : IsUnfinished (front side tail)
+  pub unfinished : IsNoFrame (front side tail)
 
 -- behind whole frames stands one that breaks a rule
 abbrev pub HasBroken : Side → List ℕ → Type 0

@@ -19,9 +19,6 @@ pub use operation::OperationCode;
 pub use param::{Capabilities, FullEntry, Held, OutList, ParamFault, ReplyFault};
 pub use sense::SenseFault;
 
-/// The definitions are all: there is no code here but laws.
-pub fn definitions() {}
-
 /// A law, proved by its contract: the bytes that can begin a record of a schedule are those that
 /// some more bytes make one.
 pub fn can_begin_is_exact()

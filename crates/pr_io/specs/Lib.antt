@@ -4,3 +4,4 @@ pub mod Calls
 pub mod Causes
 pub mod Contents
 pub mod Streams
+pub mod Told

@@ -18,9 +18,9 @@ Put None now piece = now ≡ None
 Put (Some before) None piece = ⊥
 Put (Some before) (Some now) piece = now ≡ before ++ piece
 
--- a front of the piece, maybe none of it or all, was put (this project's own)
+-- a front of the piece, maybe none of it, was put, and the rest, which is something, wasn't (this project's own)
 abbrev pub PutSome : Option (List ℕ) → Option (List ℕ) → List ℕ → Type 0
-PutSome before now piece = (sent : List ℕ) × (lost : List ℕ) × (piece ≡ sent ++ lost) × Put before now sent
+PutSome before now piece = (sent : List ℕ) × (lost : List ℕ) × (piece ≡ sent ++ lost) × Put before now sent × (0 < length lost)
 
 -- no bytes into a buffer that has room: nothing is left (this project's own)
 abbrev pub HasEnded : Option (List ℕ) → ℕ → ℕ → Type 0

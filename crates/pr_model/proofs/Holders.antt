@@ -14,7 +14,7 @@ use Rattle.pr_words.specs.Kinds.{kind_at, kind_code}
 use Rattle.pr_words.specs.Orders.{same_nexus, comes_before}
 use Rattle.pr_grammar.specs.Standings.{Standing, is_at, is_registered, key_of, is_holder, kind_of}
 use Rattle.pr_model.specs.Registrants.{IsSound, IsHeldIn, pair, has_key, is_earlier, is_later, with_pair, but_those, held, is_all}
-use Rattle.pr_model.specs.Acts.{Conflict, missed, reserved, reserve_in, release_of, taken, ReserveOut, acted, register, registered, unregistered, without_holder, reserve, release, clear, preempt, taking, removing, while_any, is_own, holds_with, key_or_zero, is_of_all, preempted, leads, stays, refusing, holder_left}
+use Rattle.pr_model.specs.Acts.{Conflict, missed, reserved, reserve_of, release_of, taken, ReserveOut, acted, register, registered, unregistered, without_holder, reserve, release, clear, preempt, taking, removing, while_any, is_own, holds_with, key_or_zero, is_of_all, preempted, leads, stays, refusing, holder_left}
 use Rattle.pr_model.proofs.Orders.{same_is, neither}
 
 -- a list with an element that passes isn't empty
@@ -113,10 +113,9 @@ stays_either : (b : Bool) (s : Standing) → IsSound s → IsSound (cond b (lead
 stays_either true s sound = sound
 stays_either false s sound = sound
 
-reserve_sound : (r : Reservation) (s : Standing) (n : Nexus) (kind : ℕ) → IsSound s → is_registered s.pairs n ≡ true → IsSound (reserve_in r s n kind).standing
-reserve_sound Free s n kind sound e = reserved_sound s n (kind_at kind) sound e
-reserve_sound (OfOne k holder) s n kind sound e = stays_either (same_nexus holder n && kind_code k == kind) s sound
-reserve_sound (OfAll k) s n kind sound e = stays_either (kind_code k == kind) s sound
+reserve_sound : (o : Option Kind) (s : Standing) (n : Nexus) (kind : ℕ) → IsSound s → is_registered s.pairs n ≡ true → IsSound (reserve_of o s n kind).standing
+reserve_sound None s n kind sound e = reserved_sound s n (kind_at kind) sound e
+reserve_sound (Some k) s n kind sound e = stays_either (is_holder s n && kind_code k == kind) s sound
 
 release_sound : (o : Option Kind) (s : Standing) (n : Nexus) (scope kind : ℕ) → IsSound s → IsSound (release_of o s n scope kind).standing
 release_sound None s n scope kind sound = sound
@@ -164,7 +163,7 @@ acted_sound limit s n o sound =
     by true false six theirs one two three h = sound
     by false own true theirs one two three h = register_sound limit s n o.action_key o.aptpl sound
     by false own false false one two three h = sound
-    by false own false true true two three h = reserve_sound s.reservation s n o.kind sound (own_registered s.pairs n o.key h)
+    by false own false true true two three h = reserve_sound (kind_of s.reservation) s n o.kind sound (own_registered s.pairs n o.key h)
     by false own false true false true three h = release_sound (kind_of s.reservation) s n o.scope o.kind sound
     by false own false true false false true h = tt
     by false own false true false false false h = preempt_sound s n o.scope o.kind o.action_key sound (own_registered s.pairs n o.key h)

@@ -30,7 +30,7 @@ by_length ps qs n long = by (length ps == length qs) refl
     by false e = apart (same_pairs ps qs) refl (eqb-false (length ps) (length qs) e)
 
 -- a filter that drops nothing leaves the list
-but_all : (goes : Pair → Bool) (ps : List Pair) → length ps ≡ length (but_those goes ps) → ps ≡ but_those goes ps
+pub but_all : (goes : Pair → Bool) (ps : List Pair) → length ps ≡ length (but_those goes ps) → ps ≡ but_those goes ps
 but_all goes [] e = refl
 but_all goes (p ∷ ps) e = by (goes p) (but_all goes ps) e
   where

@@ -5,13 +5,11 @@ use Rattle.std.proofs.lemmas.Bool.{eqb-false, ltb-true}
 use Rattle.pr_words.specs.declared.nexus.Nexus.{Nexus}
 use Rattle.pr_words.specs.declared.nexus.Pair.{Pair}
 use Rattle.pr_words.specs.declared.reservation.Kind.{Kind}
-use Rattle.pr_words.specs.declared.reservation.Reservation.{Reservation}
-use Rattle.pr_words.specs.declared.reservation.Reservation.TheVariants.{Free, OfOne, OfAll}
+use Rattle.pr_words.specs.declared.reservation.Reservation.TheVariants.{Free}
 use Rattle.pr_words.specs.Kinds.{kind_at, kind_code}
-use Rattle.pr_words.specs.Orders.{same_nexus}
 use Rattle.pr_grammar.specs.Standings.{Standing, key_of, is_at, is_registered, is_holder, kind_of}
 use Rattle.pr_model.specs.Registrants.{with_pair, pair, but_those, has_key}
-use Rattle.pr_model.specs.Acts.{ReserveOut, Conflict, acted, leads, stays, refusing, key_or_zero, is_own, register, registered, unregistered, holder_left, reserve, reserve_in, reserved, release, release_of, missed, clear, removing, preempt, taking, taken, while_any, preempted, is_of_all, holds_with}
+use Rattle.pr_model.specs.Acts.{ReserveOut, Conflict, acted, leads, stays, refusing, key_or_zero, is_own, register, registered, unregistered, holder_left, reserve, reserve_of, reserved, release, release_of, missed, clear, removing, preempt, taking, taken, while_any, preempted, is_of_all, holds_with}
 
 -- a key is put in for a nexus that has one, or where there is room
 abbrev pub PutsIn : ℕ → Standing → Nexus → ℕ → Type 0
@@ -37,10 +35,9 @@ module _ (P : List Pair → Type 0) (limit : ℕ) (s : Standing) (n : Nexus) (sa
   reserved_pairs None = same
   reserved_pairs (Some kind) = same
 
-  reserve_pairs : (r : Reservation) (kind : ℕ) → P (reserve_in r s n kind).standing.pairs
-  reserve_pairs Free kind = reserved_pairs (kind_at kind)
-  reserve_pairs (OfOne k holder) kind = held_pairs (same_nexus holder n && kind_code k == kind)
-  reserve_pairs (OfAll k) kind = held_pairs (kind_code k == kind)
+  reserve_pairs : (k : Option Kind) (kind : ℕ) → P (reserve_of k s n kind).standing.pairs
+  reserve_pairs None kind = reserved_pairs (kind_at kind)
+  reserve_pairs (Some k) kind = held_pairs (is_holder s n && kind_code k == kind)
 
   release_pairs : (k : Option Kind) (scope kind : ℕ) → P (release_of k s n scope kind).standing.pairs
   release_pairs None scope kind = same
@@ -77,7 +74,7 @@ module _ (P : List Pair → Type 0) (limit : ℕ) (s : Standing) (n : Nexus) (sa
       by true false six own one two three = same
       by false named true own one two three = register_pairs o.action_key o.aptpl put
       by false named false false one two three = same
-      by false named false true true two three = reserve_pairs s.reservation o.kind
+      by false named false true true two three = reserve_pairs (kind_of s.reservation) o.kind
       by false named false true false true three = release_pairs (kind_of s.reservation) o.scope o.kind
       by false named false true false false true = less (λ _. true)
       by false named false true false false false = preempt_pairs o.scope o.kind o.action_key

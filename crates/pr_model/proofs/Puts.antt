@@ -47,7 +47,7 @@ divides n (p ∷ ps) up = by (is_earlier n p) refl (divides n ps (λ i j d lt le
 same_itself : (n : Nexus) → same_nexus n n ≡ true
 same_itself n = grind (arith, common_steps)
 
-key_put : (ps : List Pair) (n : Nexus) (k : ℕ) → key_of (with_pair ps (pair n k)) n ≡ Some k
+pub key_put : (ps : List Pair) (n : Nexus) (k : ℕ) → key_of (with_pair ps (pair n k)) n ≡ Some k
 key_put ps n k =
     some_key n (filter (is_earlier n) ps) (filter (is_later n) ps) (record { before = filter_passes (is_earlier n) ps; after = filter_passes (is_later n) ps }) (pair n k) (same_itself n)
 

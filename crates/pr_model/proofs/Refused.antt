@@ -9,7 +9,7 @@ use Rattle.pr_grammar.specs.Cdbs.{operation_code, command_of, is_naca}
 use Rattle.pr_grammar.specs.OutLists.{list_of}
 use Rattle.pr_model.specs.Acts.{Verdict, Good, Conflict, Bad}
 use Rattle.pr_model.specs.Worlds.{World}
-use Rattle.pr_model.specs.Commands.{Answer, answer, good, checking, sense_data, unsupported_unit, invalid_operation, invalid_field, list_length_error, invalid_list, is_elsewhere, is_served, has_bad_field, announced, has_bad_length, has_bad_list, asks_to_persist, refused_where, attention_check, checks, first_or, by_verdict, hand_out, served, answered, answered_by}
+use Rattle.pr_model.specs.Commands.{Answer, answer, good, checking, sense_data, unsupported_unit, refused_where, attention_check, command_checks, checks, first_or, by_verdict, hand_out, served, answered, answered_by}
 use Rattle.pr_model.specs.Laws.{IsRefused, RefusalsChangeLittle, HasOneOutcome}
 
 -- a check's answer leaves the world as it is, or is that of the check of the attention
@@ -57,36 +57,25 @@ served_leaves w n lun (commands.Read wide protect lba count) sent refused = refl
 served_leaves w n lun (commands.Write wide protect lba count) sent refused = refl
 served_leaves w n lun (commands.SynchronizeCache lba count) sent refused = refl
 
+command_leaves : (w : World) (attention : Option Answer) (command : Command) (sent : List ℕ) → AllLeave w attention (command_checks w command sent)
+command_leaves w attention (commands.ReserveOut action scope kind list) sent =
+    let plain = refusal_leaves w attention in (plain _ _, (plain _ _, (plain _ _, (plain _ _, (plain _ _, tt)))))
+command_leaves w attention (commands.ReserveIn action allocation) sent = let plain = refusal_leaves w attention in (plain _ _, (plain _ _, tt))
+command_leaves w attention commands.TestUnitReady sent = (refusal_leaves w attention _ _, tt)
+command_leaves w attention (commands.RequestSense descriptor allocation) sent = (refusal_leaves w attention _ _, tt)
+command_leaves w attention (commands.Inquiry vital page allocation) sent = (refusal_leaves w attention _ _, tt)
+command_leaves w attention commands.ReadCapacity10 sent = (refusal_leaves w attention _ _, tt)
+command_leaves w attention (commands.ReadCapacity16 action allocation) sent = (refusal_leaves w attention _ _, tt)
+command_leaves w attention (commands.ReportLuns select allocation) sent = (refusal_leaves w attention _ _, tt)
+command_leaves w attention (commands.Read wide protect lba count) sent = (refusal_leaves w attention _ _, tt)
+command_leaves w attention (commands.Write wide protect lba count) sent = (refusal_leaves w attention _ _, tt)
+command_leaves w attention (commands.SynchronizeCache lba count) sent = (refusal_leaves w attention _ _, tt)
+
 checks_leave : (w : World) (n : Nexus) (lun op : ℕ) (cdb : List ℕ) (command : Command) (sent : List ℕ) → AllLeave w (attention_check w n op (w.attentions n)) (checks w n lun op cdb command sent)
 checks_leave w n lun op cdb command sent =
-    let plain = refusal_leaves w (attention_check w n op (w.attentions n)) in (
-      plain (is_elsewhere lun op) unsupported_unit,
-      (
-        (λ a is. inr is),
-        (
-          plain (not (is_served op)) invalid_operation,
-          (
-            plain (nat_lt (length cdb) (length_of op)) invalid_field,
-            (
-              plain (is_naca (length_of op - 1) cdb) invalid_field,
-              (
-                plain (has_bad_field command) invalid_field,
-                (
-                  plain (not (length sent == announced command)) list_length_error,
-                  (
-                    plain (has_bad_length command) list_length_error,
-                    (
-                      plain (has_bad_list command (list_of sent)) invalid_list,
-                      (plain (asks_to_persist command (list_of sent)) invalid_list, tt),
-                    ),
-                  ),
-                ),
-              ),
-            ),
-          ),
-        ),
-      ),
-    )
+    let attention : Option Answer = attention_check w n op (w.attentions n) in
+    let plain = refusal_leaves w attention in
+    (plain _ _, (λ a is. inr is, (plain _ _, (plain _ _, (plain _ _, command_leaves w attention command sent)))))
 
 refused_by : (w : World) (attention : Option Answer) (a last : Answer) → (a ≡ last) ⊎ ((a.world ≡ w) ⊎ (attention ≡ Some a)) → (IsRefused last.out → last.world ≡ w) → IsRefused a.out → (a.world ≡ w) ⊎ (attention ≡ Some a)
 refused_by w attention a last (inl same) leaves refused = inl (ap (λ (x : Answer). x.world) same ∙ leaves (subst (λ (x : Answer). IsRefused x.out) same refused))

@@ -8,10 +8,9 @@ use Rattle.pr_words.specs.declared.reservation.Reservation.TheVariants.{Free, Of
 use Rattle.pr_words.specs.Kinds.{kind_at, kind_code}
 use Rattle.pr_words.specs.Orders.{same_nexus}
 use Rattle.pr_grammar.specs.Standings.{Standing, is_registered, key_of, kind_of, is_holder, is_holder_in}
-use Rattle.pr_model.specs.Acts.{Acted, ReserveOut, Conflict, stays, leads, refusing, key_or_zero, is_own, register, registered, unregistered, holder_left, reserve, reserve_in, reserved, release, release_of, held_code, missed, clear, preempt, acted}
+use Rattle.pr_model.specs.Acts.{Acted, ReserveOut, Conflict, stays, leads, refusing, key_or_zero, is_own, register, registered, unregistered, holder_left, reserve, reserve_of, reserved, release, release_of, held_code, missed, clear, preempt, acted}
 use Rattle.pr_model.specs.Effects.{Rule, Misnamed, Idle, Leaves, Overflows, Registers, Stranger, Reserves, NoSuchKind, HoldsAlready, HeldOtherwise, HoldsNothing, Releases, OtherKind, Clears, Preempts_by, NamesItself, MayRegister, IsRule, effect_of, Acts}
 use Rattle.pr_model.proofs.Cases.{own_key, not_own_key, preempts, alone}
-use Rattle.pr_model.proofs.Holders.{own_registered}
 
 -- the rule that applies, by the tests of the function
 abbrev pub register_rule : ℕ → Standing → Nexus → ReserveOut → Rule
@@ -23,10 +22,9 @@ abbrev pub free_rule : Option Kind → Rule
 free_rule None = NoSuchKind
 free_rule (Some kind) = Reserves kind
 
-abbrev pub reserve_rule : Reservation → Nexus → ReserveOut → Rule
-reserve_rule Free n o = free_rule (kind_at o.kind)
-reserve_rule (OfOne kind holder) n o = if same_nexus holder n && kind_code kind == o.kind then HoldsAlready else HeldOtherwise
-reserve_rule (OfAll kind) n o = if kind_code kind == o.kind then HoldsAlready else HeldOtherwise
+abbrev pub reserve_rule : Option Kind → Bool → ReserveOut → Rule
+reserve_rule None holds o = free_rule (kind_at o.kind)
+reserve_rule (Some kind) holds o = if holds && kind_code kind == o.kind then HoldsAlready else HeldOtherwise
 
 abbrev pub release_rule : Option Kind → Bool → ReserveOut → Rule
 release_rule None holds o = HoldsNothing
@@ -39,7 +37,7 @@ rule_of limit s n o =
     if o.action == 0 then (if key_or_zero (key_of s.pairs n) == o.key then register_rule limit s n o else Misnamed) else
     if o.action == 6 then register_rule limit s n o else
     if not (is_own (key_of s.pairs n) o.key) then Stranger else
-    if o.action == 1 then reserve_rule s.reservation n o else
+    if o.action == 1 then reserve_rule (kind_of s.reservation) (is_holder s n) o else
     if o.action == 2 then release_rule (kind_of s.reservation) (is_holder s n) o else
     if o.action == 3 then Clears else Preempts_by (preempts s n o.scope o.kind o.action_key).how
 
@@ -62,10 +60,9 @@ held_effect : (b : Bool) (s : Standing) (n : Nexus) (o : ReserveOut) → effect_
 held_effect true s n o = refl
 held_effect false s n o = refl
 
-reserve_effect : (r : Reservation) (s : Standing) (n : Nexus) (o : ReserveOut) → effect_of s n o (reserve_rule r n o) ≡ reserve_in r s n o.kind
-reserve_effect Free s n o = free_effect (kind_at o.kind) s n o
-reserve_effect (OfOne kind holder) s n o = held_effect (same_nexus holder n && kind_code kind == o.kind) s n o
-reserve_effect (OfAll kind) s n o = held_effect (kind_code kind == o.kind) s n o
+reserve_effect : (k : Option Kind) (s : Standing) (n : Nexus) (o : ReserveOut) → effect_of s n o (reserve_rule k (is_holder s n) o) ≡ reserve_of k s n o.kind
+reserve_effect None s n o = free_effect (kind_at o.kind) s n o
+reserve_effect (Some kind) s n o = held_effect (is_holder s n && kind_code kind == o.kind) s n o
 
 release_effect : (k : Option Kind) (s : Standing) (n : Nexus) (o : ReserveOut) → effect_of s n o (release_rule k (is_holder s n) o) ≡ release_of k s n o.scope o.kind
 release_effect None s n o = refl
@@ -82,14 +79,14 @@ rule_effect limit s n o = by (o.action == 0) (key_or_zero (key_of s.pairs n) == 
   where
     by : (zero_th named six own one two three : Bool)
         → effect_of s n o (if zero_th then (if named then register_rule limit s n o else Misnamed) else if six then register_rule limit s n o else if not own then Stranger else
-        if one then reserve_rule s.reservation n o else if two then release_rule (kind_of s.reservation) (is_holder s n) o else if three then Clears else Preempts_by (preempts s n o.scope o.kind o.action_key).how)
+        if one then reserve_rule (kind_of s.reservation) (is_holder s n) o else if two then release_rule (kind_of s.reservation) (is_holder s n) o else if three then Clears else Preempts_by (preempts s n o.scope o.kind o.action_key).how)
         ≡ (if zero_th then (if named then register limit s n o.action_key o.aptpl else stays s Conflict) else if six then register limit s n o.action_key o.aptpl else if not own then stays s Conflict else
         if one then reserve s n o.kind else if two then release s n o.scope o.kind else if three then clear s else preempt s n o.scope o.kind o.action_key)
     by true true six own one two three = register_effect limit s n o
     by true false six own one two three = refl
     by false named true own one two three = register_effect limit s n o
     by false named false false one two three = refl
-    by false named false true true two three = reserve_effect s.reservation s n o
+    by false named false true true two three = reserve_effect (kind_of s.reservation) s n o
     by false named false true false true three = release_effect (kind_of s.reservation) s n o
     by false named false true false false true = refl
     by false named false true false false false = sym (preempts s n o.scope o.kind o.action_key).is
@@ -113,32 +110,23 @@ module _ (limit : ℕ) (s : Standing) (n : Nexus) (o : ReserveOut) (own : NamesI
   named : is_own (key_of s.pairs n) o.key ≡ true
   named = rw own (eq-eqb o.key o.key refl)
 
-  enrolled : is_registered s.pairs n ≡ true
-  enrolled = own_registered s.pairs n o.key named
-
   free_applies : (k : Option Kind) → o.action ≡ 1 → s.reservation ≡ Free → kind_at o.kind ≡ k → IsRule limit s n o (free_rule k)
   free_applies None one free e = (own, one, free, e)
   free_applies (Some kind) one free e = (own, one, free, e)
 
-  reserve_applies : (r : Reservation) → o.action ≡ 1 → s.reservation ≡ r → IsRule limit s n o (reserve_rule r n o)
-  reserve_applies Free one e = free_applies (kind_at o.kind) one e refl
-  reserve_applies (OfOne kind holder) one e = by (same_nexus holder n && kind_code kind == o.kind) refl
+  taken_applies : (kind : Kind) → o.action ≡ 1 → (s.reservation ≡ Free → ⊥) → held_code s.reservation ≡ kind_code kind → IsRule limit s n o (reserve_rule (Some kind) (is_holder s n) o)
+  taken_applies kind one some code = by (is_holder s n && kind_code kind == o.kind) refl
     where
-      by : (b : Bool) → (same_nexus holder n && kind_code kind == o.kind) ≡ b → IsRule limit s n o (if b then HoldsAlready else HeldOtherwise)
+      by : (b : Bool) → (is_holder s n && kind_code kind == o.kind) ≡ b → IsRule limit s n o (if b then HoldsAlready else HeldOtherwise)
       by true f =
-          let parts = and_parts (same_nexus holder n) (kind_code kind == o.kind) f in
-          (own, one, (ap (λ r. is_holder_in r s.pairs n) e ∙ parts.0, ap held_code e ∙ eqb-true (kind_code kind) o.kind parts.1))
-      by false f = (
-        own,
-        one,
-        (λ free. absurd (grind (arith, e, free))),
-        λ h. not_both (same_nexus holder n) (kind_code kind == o.kind) f (sym (ap (λ r. is_holder_in r s.pairs n) e) ∙ h.0, eq-eqb (kind_code kind) o.kind (sym (ap held_code e) ∙ h.1)),
-      )
-  reserve_applies (OfAll kind) one e = by (kind_code kind == o.kind) refl
-    where
-      by : (b : Bool) → (kind_code kind == o.kind) ≡ b → IsRule limit s n o (if b then HoldsAlready else HeldOtherwise)
-      by true f = (own, one, (ap (λ r. is_holder_in r s.pairs n) e ∙ enrolled, ap held_code e ∙ eqb-true (kind_code kind) o.kind f))
-      by false f = (own, one, (λ free. absurd (grind (arith, e, free))), λ h. absurd (eqb-false (kind_code kind) o.kind f (sym (ap held_code e) ∙ h.1)))
+          let parts = and_parts (is_holder s n) (kind_code kind == o.kind) f in
+          (own, one, (parts.0, code ∙ eqb-true (kind_code kind) o.kind parts.1))
+      by false f = (own, one, some, λ h. not_both (is_holder s n) (kind_code kind == o.kind) f (h.0, eq-eqb (kind_code kind) o.kind (sym code ∙ h.1)))
+
+  reserve_applies : (r : Reservation) → o.action ≡ 1 → s.reservation ≡ r → IsRule limit s n o (reserve_rule (kind_of r) (is_holder s n) o)
+  reserve_applies Free one e = free_applies (kind_at o.kind) one e refl
+  reserve_applies (OfOne kind holder) one e = taken_applies kind one (λ free. absurd (grind (arith, e, free))) (ap held_code e)
+  reserve_applies (OfAll kind) one e = taken_applies kind one (λ free. absurd (grind (arith, e, free))) (ap held_code e)
 
   some_applies : (kind : Kind) → o.action ≡ 2 → kind_of s.reservation ≡ Some kind → held_code s.reservation ≡ kind_code kind → IsRule limit s n o (release_rule (Some kind) (is_holder s n) o)
   some_applies kind two e code = by (is_holder s n) (o.scope == 0 && kind_code kind == o.kind) refl refl
@@ -170,7 +158,7 @@ rule_applies limit s n o le =
     by : (zero_th named six own one two three : Bool) → (o.action == 0) ≡ zero_th → (key_or_zero (key_of s.pairs n) == o.key) ≡ named → (o.action == 6) ≡ six → is_own (key_of s.pairs n) o.key ≡ own
         → (o.action == 1) ≡ one → (o.action == 2) ≡ two → (o.action == 3) ≡ three
         → IsRule limit s n o (if zero_th then (if named then register_rule limit s n o else Misnamed) else if six then register_rule limit s n o else if not own then Stranger else
-        if one then reserve_rule s.reservation n o else if two then release_rule (kind_of s.reservation) (is_holder s n) o else if three then Clears else Preempts_by (preempts s n o.scope o.kind o.action_key).how)
+        if one then reserve_rule (kind_of s.reservation) (is_holder s n) o else if two then release_rule (kind_of s.reservation) (is_holder s n) o else if three then Clears else Preempts_by (preempts s n o.scope o.kind o.action_key).how)
     by true true six own one two three a b c d e f g = register_applies limit s n o (inr (eqb-true o.action 0 a, eqb-true (key_or_zero (key_of s.pairs n)) o.key b))
     by true false six own one two three a b c d e f g = (eqb-true o.action 0 a, eqb-false (key_or_zero (key_of s.pairs n)) o.key b)
     by false named true own one two three a b c d e f g = register_applies limit s n o (inl (eqb-true o.action 6 c))
@@ -203,7 +191,7 @@ module _ (limit : ℕ) (s : Standing) (n : Nexus) (o : ReserveOut) where
       by true e = absurd (other (own_key (key_of s.pairs n) o.key e))
       by false e = rw (ne_eqb o.action 0 (λ z. absurd (omega (arith, low, z))), ne_eqb o.action 6 (λ z. absurd (omega (arith, high, z))), e) refl
 
-  reserve_only : NamesItself s n o → o.action ≡ 1 → rule_of limit s n o ≡ reserve_rule s.reservation n o
+  reserve_only : NamesItself s n o → o.action ≡ 1 → rule_of limit s n o ≡ reserve_rule (kind_of s.reservation) (is_holder s n) o
   reserve_only own one = rw (one, named limit s n o own) refl
 
   release_only : NamesItself s n o → o.action ≡ 2 → rule_of limit s n o ≡ release_rule (kind_of s.reservation) (is_holder s n) o
@@ -216,23 +204,22 @@ module _ (limit : ℕ) (s : Standing) (n : Nexus) (o : ReserveOut) where
   preempt_only own (inl four) = rw (four, named limit s n o own) refl
   preempt_only own (inr five) = rw (five, named limit s n o own) refl
 
-  already_only : (r : Reservation) → is_holder_in r s.pairs n ≡ true → held_code r ≡ o.kind → reserve_rule r n o ≡ HoldsAlready
+  already_only : (r : Reservation) → is_holder_in r s.pairs n ≡ true → held_code r ≡ o.kind → reserve_rule (kind_of r) true o ≡ HoldsAlready
   already_only Free e f = absurd (false≢true e)
-  already_only (OfOne kind holder) e f = rw (e, eq-eqb (kind_code kind) o.kind f) refl
+  already_only (OfOne kind holder) e f = rw (eq-eqb (kind_code kind) o.kind f) refl
   already_only (OfAll kind) e f = rw (eq-eqb (kind_code kind) o.kind f) refl
 
-  otherwise_only : (r : Reservation) → (r ≡ Free → ⊥) → ((is_holder_in r s.pairs n ≡ true) × (held_code r ≡ o.kind) → ⊥) → is_registered s.pairs n ≡ true → reserve_rule r n o ≡ HeldOtherwise
-  otherwise_only Free some other e = absurd (some refl)
-  otherwise_only (OfOne kind holder) some other e = by (same_nexus holder n && kind_code kind == o.kind) refl
+  otherwise : (kind : Kind) (holds : Bool) → ((holds ≡ true) × (kind_code kind ≡ o.kind) → ⊥) → reserve_rule (Some kind) holds o ≡ HeldOtherwise
+  otherwise kind holds other = by (holds && kind_code kind == o.kind) refl
     where
-      by : (b : Bool) → (same_nexus holder n && kind_code kind == o.kind) ≡ b → (if b then HoldsAlready else HeldOtherwise) ≡ HeldOtherwise
-      by true f = let parts = and_parts (same_nexus holder n) (kind_code kind == o.kind) f in absurd (other (parts.0, eqb-true (kind_code kind) o.kind parts.1))
+      by : (b : Bool) → (holds && kind_code kind == o.kind) ≡ b → (if b then HoldsAlready else HeldOtherwise) ≡ HeldOtherwise
+      by true f = let parts = and_parts holds (kind_code kind == o.kind) f in absurd (other (parts.0, eqb-true (kind_code kind) o.kind parts.1))
       by false f = refl
-  otherwise_only (OfAll kind) some other e = by (kind_code kind == o.kind) refl
-    where
-      by : (b : Bool) → (kind_code kind == o.kind) ≡ b → (if b then HoldsAlready else HeldOtherwise) ≡ HeldOtherwise
-      by true f = absurd (other (e, eqb-true (kind_code kind) o.kind f))
-      by false f = refl
+
+  otherwise_only : (r : Reservation) → (r ≡ Free → ⊥) → ((is_holder_in r s.pairs n ≡ true) × (held_code r ≡ o.kind) → ⊥) → reserve_rule (kind_of r) (is_holder_in r s.pairs n) o ≡ HeldOtherwise
+  otherwise_only Free some other = absurd (some refl)
+  otherwise_only (OfOne kind holder) some other = otherwise kind (same_nexus holder n) other
+  otherwise_only (OfAll kind) some other = otherwise kind (is_registered s.pairs n) other
 
   nothing_only : (k : Option Kind) → is_holder s n ≡ false → release_rule k (is_holder s n) o ≡ HoldsNothing
   nothing_only None e = refl
@@ -264,8 +251,8 @@ module _ (limit : ℕ) (s : Standing) (n : Nexus) (o : ReserveOut) where
   only Stranger p = stranger_only p.0 p.1 p.2
   only (Reserves kind) p = reserve_only p.0 p.1 ∙ rw (p.2, p.3) refl
   only NoSuchKind p = reserve_only p.0 p.1 ∙ rw (p.2, p.3) refl
-  only HoldsAlready p = reserve_only p.0 p.1 ∙ already_only s.reservation p.2.0 p.2.1
-  only HeldOtherwise p = reserve_only p.0 p.1 ∙ otherwise_only s.reservation p.2 p.3 (enrolled limit s n o p.0)
+  only HoldsAlready p = reserve_only p.0 p.1 ∙ rw p.2.0 (already_only s.reservation p.2.0 p.2.1)
+  only HeldOtherwise p = reserve_only p.0 p.1 ∙ otherwise_only s.reservation p.2 p.3
   only HoldsNothing p = release_only p.0 p.1 ∙ nothing_only (kind_of s.reservation) p.2
   only (Releases kind) p = release_only p.0 p.1 ∙ rw (p.4, p.3.0, eq-eqb o.scope 0 p.2, eq-eqb (kind_code kind) o.kind (sym (code_of s.reservation kind p.4) ∙ p.3.1)) refl
   only OtherKind p = release_only p.0 p.1 ∙ rw p.2 (other_only s.reservation p.2 p.3)

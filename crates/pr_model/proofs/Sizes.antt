@@ -1,5 +1,5 @@
 -- No entry changes how many blocks the medium has.
-use Rattle.std.proofs.Common.{◌≡◌, ℕ, ◌==◌, Bool, true, false, cond, List, [], ◌∷◌, ◌++◌, Option, Some, None, refl, ap, ◌∙◌, take}
+use Rattle.std.proofs.Common.{◌≡◌, ℕ, ◌==◌, Bool, true, false, cond, List, [], ◌∷◌, Option, Some, None, refl, ap, take}
 use Rattle.pr_words.specs.declared.nexus.Nexus.{Nexus}
 use Rattle.pr_words.specs.declared.code.Code.{Code}
 use Rattle.pr_grammar.specs.declared.cdb.Command.{Command}
@@ -10,8 +10,8 @@ use Rattle.pr_model.specs.Acts.{Verdict, Good, Conflict, Bad}
 use Rattle.pr_model.specs.Worlds.{Blocks, World, set_at}
 use Rattle.pr_model.specs.Entries as entries
 use Rattle.pr_model.specs.Entries.{Act, Out, Entry}
-use Rattle.pr_model.specs.Commands.{Answer, answer, good, checking, sense_data, unsupported_unit, refused_where, attention_check, checks, first_or, by_verdict, hand_out, served, answered}
-use Rattle.pr_model.specs.Histories.{login_code, logged_in, moved, moved_by}
+use Rattle.pr_model.specs.Commands.{Answer, answer, good, checking, sense_data, unsupported_unit, refused_where, attention_check, command_checks, checks, first_or, by_verdict, hand_out, served, answered}
+use Rattle.pr_model.specs.Histories.{login_code, logged_in, moved_by}
 use Rattle.pr_model.specs.Laws.{KeepsSize}
 
 -- a check's answer leaves the medium as it is
@@ -66,10 +66,24 @@ served_keeps w n lun (commands.Read wide protect lba count) sent = refl
 served_keeps w n lun (commands.Write wide protect lba count) sent = refl
 served_keeps w n lun (commands.SynchronizeCache lba count) sent = refl
 
+command_keeps : (w : World) (command : Command) (sent : List ℕ) → AllKeep w (command_checks w command sent)
+command_keeps w (commands.ReserveOut action scope kind list) sent =
+    let plain = refusal_keeps w in (plain _ _, (plain _ _, (plain _ _, (plain _ _, (plain _ _, tt)))))
+command_keeps w (commands.ReserveIn action allocation) sent = let plain = refusal_keeps w in (plain _ _, (plain _ _, tt))
+command_keeps w commands.TestUnitReady sent = (refusal_keeps w _ _, tt)
+command_keeps w (commands.RequestSense descriptor allocation) sent = (refusal_keeps w _ _, tt)
+command_keeps w (commands.Inquiry vital page allocation) sent = (refusal_keeps w _ _, tt)
+command_keeps w commands.ReadCapacity10 sent = (refusal_keeps w _ _, tt)
+command_keeps w (commands.ReadCapacity16 action allocation) sent = (refusal_keeps w _ _, tt)
+command_keeps w (commands.ReportLuns select allocation) sent = (refusal_keeps w _ _, tt)
+command_keeps w (commands.Read wide protect lba count) sent = (refusal_keeps w _ _, tt)
+command_keeps w (commands.Write wide protect lba count) sent = (refusal_keeps w _ _, tt)
+command_keeps w (commands.SynchronizeCache lba count) sent = (refusal_keeps w _ _, tt)
+
 checks_keep : (w : World) (n : Nexus) (lun op : ℕ) (cdb : List ℕ) (command : Command) (sent : List ℕ) → AllKeep w (checks w n lun op cdb command sent)
 checks_keep w n lun op cdb command sent =
     let plain = refusal_keeps w in
-    (plain _ _, (attention_keeps w n op (w.attentions n), (plain _ _, (plain _ _, (plain _ _, (plain _ _, (plain _ _, (plain _ _, (plain _ _, (plain _ _, tt))))))))))
+    (plain _ _, (attention_keeps w n op (w.attentions n), (plain _ _, (plain _ _, (plain _ _, command_keeps w command sent)))))
 
 answer_keeps : (w : World) (n : Nexus) (lun : ℕ) (cdb sent : List ℕ) → (answered w n lun cdb sent).world.medium ≡ w.medium
 unfolding answered

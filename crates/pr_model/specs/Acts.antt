@@ -110,13 +110,12 @@ abbrev pub reserved : Standing → Nexus → Option Kind → Acted
 reserved s n None = stays s (refusing 0x24 0)
 reserved s n (Some k) = leads (record s { reservation = held k n })
 
-abbrev pub reserve_in : Reservation → Standing → Nexus → ℕ → Acted
-reserve_in Free s n kind = reserved s n (kind_at kind)
-reserve_in (OfOne k holder) s n kind = if same_nexus holder n && kind_code k == kind then leads s else stays s Conflict
-reserve_in (OfAll k) s n kind = if kind_code k == kind then leads s else stays s Conflict
+abbrev pub reserve_of : Option Kind → Standing → Nexus → ℕ → Acted
+reserve_of None s n kind = reserved s n (kind_at kind)
+reserve_of (Some k) s n kind = if is_holder s n && kind_code k == kind then leads s else stays s Conflict
 
 abbrev pub reserve : Standing → Nexus → ℕ → Acted
-reserve s n kind = reserve_in s.reservation s n kind
+reserve s n kind = reserve_of (kind_of s.reservation) s n kind
 
 -- RELEASE
 abbrev pub release_of : Option Kind → Standing → Nexus → ℕ → ℕ → Acted

@@ -4,10 +4,11 @@ use Rattle.pr_words.specs.declared.nexus.Nexus.{Nexus}
 use Rattle.pr_words.specs.declared.code.Code.{Code}
 use Rattle.pr_words.specs.declared.code.Status.TheVariants as status
 use Rattle.pr_words.specs.Kinds.{kind_at}
+use Rattle.pr_words.specs.Services.{in_service_at, out_service_at}
 use Rattle.pr_grammar.specs.Standings.{Standing}
 use Rattle.pr_grammar.specs.Senses.{fixed_sense, descriptor_sense}
 use Rattle.pr_grammar.specs.declared.cdb.Command.{Command}
-use Rattle.pr_grammar.specs.declared.cdb.Command.TheVariants.{TestUnitReady, RequestSense, ReserveIn, ReserveOut}
+use Rattle.pr_grammar.specs.declared.cdb.Command.TheVariants.{TestUnitReady, RequestSense, Inquiry, ReadCapacity10, ReadCapacity16, ReportLuns, Read, Write, SynchronizeCache, ReserveIn, ReserveOut}
 use Rattle.pr_grammar.specs.declared.operation.OperationCode.{OperationCode}
 use Rattle.pr_grammar.specs.declared.operation.OperationCode.TheVariants as operations
 use Rattle.pr_grammar.specs.Operations.{operation_at, length_of, is_unconditional}
@@ -89,36 +90,6 @@ serves _ = false
 abbrev pub is_served : ℕ → Bool
 is_served op = serves (operation_at op)
 
--- scope and type of a RESERVE: of the logical unit, and one of the six
-abbrev pub is_reservable : ℕ → ℕ → Bool
-is_reservable scope kind = scope == 0 && is_some (kind_at kind)
-
--- the command's own fields: a service action that isn't supported, or a RESERVE with another scope or type
-abbrev pub has_bad_field : Command → Bool
-has_bad_field (ReserveIn action allocation) = nat_lt 3 action
-has_bad_field (ReserveOut action scope kind list) = nat_lt 6 action || (action == 1 && not (is_reservable scope kind))
-has_bad_field _ = false
-
--- how many bytes of data-out the CDB announces
-abbrev pub announced : Command → ℕ
-announced (ReserveOut action scope kind list) = list
-announced _ = 0
-
--- a parameter list has 24 bytes, since none with SPEC_I_PT is supported
-abbrev pub has_bad_length : Command → Bool
-has_bad_length (ReserveOut action scope kind list) = not (list == 24)
-has_bad_length _ = false
-
--- SPEC_I_PT isn't supported, nor is ALL_TG_PT where a nexus registers
-abbrev pub has_bad_list : Command → OutList → Bool
-has_bad_list (ReserveOut action scope kind list) l = l.spec_i_pt || (l.all_tg_pt && (action == 0 || action == 6))
-has_bad_list _ l = false
-
--- APTPL isn't supported yet
-abbrev pub asks_to_persist : Command → OutList → Bool
-asks_to_persist (ReserveOut action scope kind list) l = l.aptpl
-asks_to_persist _ l = false
-
 -- by the logical unit, and by what waits to be reported
 abbrev pub unit_checks : World → Nexus → ℕ → ℕ → List (Option Answer)
 unit_checks w n lun op = refused_where (is_elsewhere lun op) w unsupported_unit ∷ attention_check w n op (w.attentions n) ∷ []
@@ -131,27 +102,51 @@ operation_checks w op = refused_where (not (is_served op)) w invalid_operation �
 abbrev pub conflict_checks : World → Nexus → ℕ → List (Option Answer)
 conflict_checks w n op = []
 
--- by the CDB: its length, NACA, and the command's own fields
-abbrev pub cdb_checks : World → ℕ → List ℕ → Command → List (Option Answer)
-cdb_checks w op cdb command =
+-- by the CDB's form: its length, and NACA, which isn't supported (SPC-4, control byte)
+abbrev pub form_checks : World → ℕ → List ℕ → List (Option Answer)
+form_checks w op cdb =
     refused_where (nat_lt (length cdb) (length_of op)) w invalid_field
     ∷ refused_where (is_naca (length_of op - 1) cdb) w invalid_field
-    ∷ refused_where (has_bad_field command) w invalid_field
     ∷ []
 
--- by the data-out: its length, and what the parameter list asks for
-abbrev pub data_checks : World → Command → List ℕ → List (Option Answer)
-data_checks w command sent =
-    refused_where (not (length sent == announced command)) w list_length_error
-    ∷ refused_where (has_bad_length command) w list_length_error
-    ∷ refused_where (has_bad_list command (list_of sent)) w invalid_list
-    ∷ refused_where (asks_to_persist command (list_of sent)) w invalid_list
-    ∷ []
+-- by the length of the data-out, which is the one that the CDB announces
+abbrev pub length_check : World → ℕ → List ℕ → Option Answer
+length_check w announced sent = refused_where (not (length sent == announced)) w list_length_error
 
--- the order of refusals (this project's own)
+-- a service action that isn't supported, or a RESERVE whose scope isn't the logical unit's or whose type is none of the six
+abbrev pub has_bad_service : ℕ → ℕ → ℕ → Bool
+has_bad_service action scope kind =
+    not (is_some (out_service_at action)) || (action == 1 && not (scope == 0 && is_some (kind_at kind)))
+
+-- SPEC_I_PT isn't supported, nor is ALL_TG_PT where a nexus registers
+abbrev pub has_bad_list : ℕ → OutList → Bool
+has_bad_list action l = l.spec_i_pt || (l.all_tg_pt && (action == 0 || action == 6))
+
+-- by the command's own fields, by its data-out's length, and by its parameter list, which has 24 bytes, since none with SPEC_I_PT is supported; APTPL isn't supported yet
+abbrev pub command_checks : World → Command → List ℕ → List (Option Answer)
+command_checks w (ReserveOut action scope kind list) sent =
+    refused_where (has_bad_service action scope kind) w invalid_field
+    ∷ length_check w list sent
+    ∷ refused_where (not (list == 24)) w list_length_error
+    ∷ refused_where (has_bad_list action (list_of sent)) w invalid_list
+    ∷ refused_where (list_of sent).aptpl w invalid_list
+    ∷ []
+command_checks w (ReserveIn action allocation) sent =
+    refused_where (not (is_some (in_service_at action))) w invalid_field ∷ length_check w 0 sent ∷ []
+command_checks w TestUnitReady sent = length_check w 0 sent ∷ []
+command_checks w (RequestSense descriptor allocation) sent = length_check w 0 sent ∷ []
+command_checks w (Inquiry vital page allocation) sent = length_check w 0 sent ∷ []
+command_checks w ReadCapacity10 sent = length_check w 0 sent ∷ []
+command_checks w (ReadCapacity16 action allocation) sent = length_check w 0 sent ∷ []
+command_checks w (ReportLuns select allocation) sent = length_check w 0 sent ∷ []
+command_checks w (Read wide protect lba count) sent = length_check w 0 sent ∷ []
+command_checks w (Write wide protect lba count) sent = length_check w 0 sent ∷ []
+command_checks w (SynchronizeCache lba count) sent = length_check w 0 sent ∷ []
+
+-- the order of refusals (this project's own): unit, operation code, reservation, form, command
 abbrev pub checks : World → Nexus → ℕ → ℕ → List ℕ → Command → List ℕ → List (Option Answer)
 checks w n lun op cdb command sent =
-    unit_checks w n lun op ++ operation_checks w op ++ conflict_checks w n op ++ cdb_checks w op cdb command ++ data_checks w command sent
+    unit_checks w n lun op ++ operation_checks w op ++ conflict_checks w n op ++ form_checks w op cdb ++ command_checks w command sent
 
 -- the first check that applies gives the answer
 abbrev pub first_or : List (Option Answer) → Answer → Answer
@@ -192,17 +187,24 @@ by_verdict w next (Bad c) = answer w (checking c)
 abbrev pub reserve_out : World → Nexus → Acted → Answer
 reserve_out w n a = by_verdict w (record w { standing = a.standing; attentions = told n a w.attentions }) a.verdict
 
-abbrev pub asked : ℕ → ℕ → ℕ → OutList → acts.ReserveOut
-asked action scope kind l =
+abbrev pub out_request : ℕ → ℕ → ℕ → OutList → acts.ReserveOut
+out_request action scope kind l =
     record { action = action; scope = scope; kind = kind; key = l.key; action_key = l.action_key; aptpl = l.aptpl }
 
--- the other commands aren't served yet
+-- what a command does; those that aren't served yet were refused by their operation code
 abbrev pub served : World → Nexus → ℕ → Command → List ℕ → Answer
 served w n lun TestUnitReady sent = answer w (good [])
 served w n lun (RequestSense descriptor allocation) sent = request_sense w n lun descriptor allocation
 served w n lun (ReserveIn action allocation) sent = answer w (good (take allocation (reserve_in_data action w.standing)))
-served w n lun (ReserveOut action scope kind list) sent = reserve_out w n (acted LIMIT w.standing n (asked action scope kind (list_of sent)))
-served w n lun _ sent = answer w (checking invalid_operation)
+served w n lun (ReserveOut action scope kind list) sent =
+    reserve_out w n (acted LIMIT w.standing n (out_request action scope kind (list_of sent)))
+served w n lun (Inquiry vital page allocation) sent = answer w (checking invalid_operation)
+served w n lun ReadCapacity10 sent = answer w (checking invalid_operation)
+served w n lun (ReadCapacity16 action allocation) sent = answer w (checking invalid_operation)
+served w n lun (ReportLuns select allocation) sent = answer w (checking invalid_operation)
+served w n lun (Read wide protect lba count) sent = answer w (checking invalid_operation)
+served w n lun (Write wide protect lba count) sent = answer w (checking invalid_operation)
+served w n lun (SynchronizeCache lba count) sent = answer w (checking invalid_operation)
 
 abbrev pub answered_by : World → Nexus → ℕ → ℕ → List ℕ → Command → List ℕ → Answer
 answered_by w n lun op cdb command sent = first_or (checks w n lun op cdb command sent) (served w n lun command sent)

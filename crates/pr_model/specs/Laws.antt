@@ -1,8 +1,14 @@
 -- Laws of the definitions.
-use Rattle.std.specs.Prelude.{◌≡◌, ℕ, ◌≤◌, ◌⊎◌, List, length, Some, None}
+use Rattle.std.specs.Prelude.{◌≡◌, ℕ, ◌≤◌, ◌⊎◌, true, false, List, length, Some, None}
 use Rattle.pr_words.specs.declared.nexus.Nexus.{Nexus}
 use Rattle.pr_words.specs.declared.code.Status.TheVariants as status
+use Rattle.pr_words.specs.declared.reservation.Kind.{Kind}
+use Rattle.pr_words.specs.declared.reservation.Reservation.TheVariants.{OfAll}
+use Rattle.pr_grammar.specs.declared.cdb.Class.{Class}
+use Rattle.pr_grammar.specs.declared.cdb.Class.TheVariants.{Free}
 use Rattle.pr_grammar.specs.Cdbs.{operation_code}
+use Rattle.pr_grammar.specs.Standings.{Standing, is_holder, is_registered}
+use Rattle.pr_model.specs.Conflicts.{is_forbidden}
 use Rattle.pr_model.specs.Limits.{HELD}
 use Rattle.pr_model.specs.Worlds.{World}
 use Rattle.pr_model.specs.Entries.{Command, Out, Login_code, Ended, Started, Wrote, Read, Done, Aborted, Fault, Left, Restored, Entry, entry}
@@ -48,3 +54,17 @@ HasOneOutcome =
 -- no entry changes how many blocks the medium has
 abbrev pub KeepsSize : Type 0
 KeepsSize = (w : World) (e : Entry) → (moved w e).medium.count ≡ w.medium.count
+
+-- no command of a reservation holder conflicts
+abbrev pub HoldersPass : Type 0
+HoldersPass = (s : Standing) (n : Nexus) (c : Class) → is_holder s n ≡ true → is_forbidden s n c ≡ false
+
+-- nor one of a registered nexus, where all registrants hold the reservation
+abbrev pub RegistrantsPass : Type 0
+RegistrantsPass =
+    (s : Standing) (kind : Kind) (n : Nexus) (c : Class) → s.reservation ≡ OfAll kind → is_registered s.pairs n ≡ true
+    → is_forbidden s n c ≡ false
+
+-- nor one that neither reads nor writes
+abbrev pub FreePass : Type 0
+FreePass = (s : Standing) (n : Nexus) → is_forbidden s n Free ≡ false

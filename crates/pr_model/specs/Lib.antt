@@ -1,6 +1,7 @@
 pub mod Limits
 pub mod Registrants
 pub mod Acts
+pub mod Conflicts
 pub mod Keeping
 pub mod Places
 pub mod Cases

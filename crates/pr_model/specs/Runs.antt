@@ -48,17 +48,27 @@ closing who _ = []
 abbrev pub Closes : ℕ → Lane → Deed → Lane → Type 0
 Closes who l d m = (d ≡ deed (closing who l.phase) []) × (m ≡ fresh)
 
--- what a record does on its lane, or has done of it after some of its turns
-abbrev pub BeginsRecord : Record → Lane → Deed → Lane → Type 0
-BeginsRecord (Arrival who bytes) l d m = (turns : ℕ) × TakesTurns turns who (arrived l bytes) d m
-BeginsRecord (Step_of who) l d m = TakesTurn who l d m
-BeginsRecord (Close_of who) l d m = Closes who l d m
-
 -- all that a record does: bytes that arrive are held at its end
 abbrev pub RunsRecord : Record → Lane → Deed → Lane → Type 0
 RunsRecord (Arrival who bytes) l d m = ((turns : ℕ) × TakesTurns turns who (arrived l bytes) d m) × (length m.bytes ≤ HELD)
 RunsRecord (Step_of who) l d m = TakesTurn who l d m
 RunsRecord (Close_of who) l d m = Closes who l d m
+
+-- one turn of a lane, of whose output just a front was written: something was lost
+abbrev pub CutsTurn : ℕ → Lane → Deed → Lane → Type 0
+CutsTurn who l d m = (lost : List ℕ) × TakesTurn who l (deed d.entries (d.output ++ lost)) m × (0 < length lost)
+
+-- so many whole turns, and then one more that is cut
+abbrev pub CutsTurns : ℕ → ℕ → Lane → Deed → Lane → Type 0
+CutsTurns turns who l d m =
+    (first : Deed) × (mid : Lane) × (rest : Deed) × TakesTurns turns who l first mid × (HELD < length mid.bytes)
+    × CutsTurn who mid rest m × (d ≡ joined first rest)
+
+-- what a record has done up to and with a turn that is cut: nothing behind it. A connection that is closed writes nothing
+abbrev pub CutsRecord : Record → Lane → Deed → Lane → Type 0
+CutsRecord (Arrival who bytes) l d m = (turns : ℕ) × CutsTurns turns who (arrived l bytes) d m
+CutsRecord (Step_of who) l d m = CutsTurn who l d m
+CutsRecord (Close_of who) l d m = ⊥
 
 -- the record acts on the lane of its number, whose place among the lanes that is
 abbrev pub ActsOn : (Record → Lane → Deed → Lane → Type 0) → Record → List Lane → Deed → List Lane → Type 0
@@ -71,8 +81,8 @@ IsRun lanes [] d last = (d ≡ nothing) × (last ≡ lanes)
 IsRun lanes (r ∷ rs) d last =
     (first : Deed) × (mid : List Lane) × (rest : Deed) × ActsOn RunsRecord r lanes first mid × IsRun mid rs rest last × (d ≡ joined first rest)
 
--- the same, but the last record may have taken only some of its turns
-abbrev pub IsBegunRun : List Lane → List Record → Deed → List Lane → Type 0
-IsBegunRun lanes records d last =
+-- the same, but the last record is cut
+abbrev pub IsCutRun : List Lane → List Record → Deed → List Lane → Type 0
+IsCutRun lanes records d last =
     (whole : List Record) × (r : Record) × (first : Deed) × (mid : List Lane) × (rest : Deed) × (records ≡ whole ++ r ∷ [])
-    × IsRun lanes whole first mid × ActsOn BeginsRecord r mid rest last × (d ≡ joined first rest)
+    × IsRun lanes whole first mid × ActsOn CutsRecord r mid rest last × (d ≡ joined first rest)

@@ -13,7 +13,7 @@ ghost use Rattle.pr_model.specs.Acts.{Acted, Good, Bad, ReserveOut, acted, preem
 ghost use Rattle.pr_model.specs.Cases.{Case, Applies, Preempts};
 ghost use Rattle.pr_model.specs.Effects.{Rule, IsRule, Acts};
 ghost use Rattle.pr_model.specs.Attentions.{is_attention};
-ghost use Rattle.pr_model.specs.Laws.{BytesWait, HasOneOutcome, KeepsSize, RefusalsChangeLittle};
+ghost use Rattle.pr_model.specs.Laws.{BytesWait, FreePass, HasOneOutcome, HoldersPass, KeepsSize, RefusalsChangeLittle, RegistrantsPass};
 ghost use Rattle.pr_model.specs.Keeping.{Kept, kept, same_kept, keeps_by, looks_same, same_reservation};
 
 /// Of each PREEMPT exactly one case applies, and it has exactly one answer, which `preempt` is.
@@ -88,4 +88,12 @@ pub fn entries_keep_the_size()
 /// Bytes that wait behind a full buffer change no turn: they go on waiting behind what is left.
 pub fn bytes_wait()
     ensures { BytesWait }
+{}
+
+/// No command of a reservation holder conflicts with the reservation, which is each registered nexus
+/// where all registrants hold it; and no command conflicts that neither reads nor writes.
+pub fn holders_never_conflict()
+    ensures holders { HoldersPass }
+    ensures registrants { RegistrantsPass }
+    ensures free { FreePass }
 {}

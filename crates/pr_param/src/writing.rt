@@ -1,7 +1,8 @@
-ghost use Rattle.std.specs.Prelude.{◌≡◌, ◌≤◌, ◌+◌, ◌∷◌, [], ◌++◌, Ok, length, take, drop, min};
-ghost use Rattle.std.specs.Int.{w32, to_be_bytes};
-ghost use Rattle.pr_grammar.specs.InReplies.{FitsFields, read_keys, read_reservation, read_capabilities, read_full, listed_keys, told_reservation, told_capabilities, listed_entries, keys_reply, reservation_reply, capabilities_reply, full_reply, held_bytes, key_at as spec_key_at, descriptor as spec_descriptor, holds as spec_holds, held_code as spec_held_code};
+ghost use Rattle.std.specs.Prelude.{◌≡◌, ◌≤◌, ◌+◌, ◌∷◌, [], ◌++◌, ◌<◌, ◌^◌, Ok, length, take, drop, min};
+ghost use Rattle.std.specs.Int.{w32, w64, to_be_bytes};
+ghost use Rattle.pr_grammar.specs.InReplies.{FitsPair, read_keys, read_reservation, read_capabilities, read_full, listed_keys, told_reservation, told_capabilities, listed_entries, keys_reply, reservation_reply, capabilities_reply, full_reply, held_bytes, key_at as spec_key_at, descriptor as spec_descriptor, holds as spec_holds, type_byte as spec_held_code};
 ghost use Rattle.pr_grammar.specs.Cdbs.{bit};
+ghost use Rattle.pr_param.specs.Fits.{FitKeys, FitFields, FitsHeld};
 
 use crate::put::{put, put_head};
 use crate::registrants::Registrants;
@@ -15,7 +16,7 @@ pub fn write_keys<R: Registrants>(from: &R, allocation: usize, out: &mut [u8]) -
     ensures len { result ≡ min allocation (length (keys_reply (R.standing from.now))) }
     ensures written { take result out.new ≡ take result (keys_reply (R.standing from.now)) }
     ensures rest { drop result out.new ≡ drop result out.old }
-    ensures reads_back { FitsFields (R.standing from.now) → length (keys_reply (R.standing from.now)) ≤ allocation → read_keys (take result out.new) ≡ Ok (listed_keys (R.standing from.now)) }
+    ensures reads_back { length (keys_reply (R.standing from.now)) ≤ allocation → read_keys (take result out.new) ≡ Ok (listed_keys (R.standing from.now)) }
 {
     let len = allocation.min(keys_length(from));
     put_keys(from, &mut out[..len]);
@@ -30,7 +31,7 @@ pub fn write_reservation<R: Registrants>(from: &R, allocation: usize, out: &mut 
     ensures len { result ≡ min allocation (length (reservation_reply (R.standing from.now))) }
     ensures written { take result out.new ≡ take result (reservation_reply (R.standing from.now)) }
     ensures rest { drop result out.new ≡ drop result out.old }
-    ensures reads_back { FitsFields (R.standing from.now) → length (reservation_reply (R.standing from.now)) ≤ allocation → read_reservation (take result out.new) ≡ Ok (told_reservation (R.standing from.now)) }
+    ensures reads_back { length (reservation_reply (R.standing from.now)) ≤ allocation → read_reservation (take result out.new) ≡ Ok (told_reservation (R.standing from.now)) }
 {
     let len = allocation.min(reservation_length(from));
     put_reservation(from, &mut out[..len]);
@@ -44,7 +45,7 @@ pub fn write_capabilities<R: Registrants>(from: &R, allocation: usize, out: &mut
     ensures len { result ≡ min allocation (length (capabilities_reply (R.standing from.now))) }
     ensures written { take result out.new ≡ take result (capabilities_reply (R.standing from.now)) }
     ensures rest { drop result out.new ≡ drop result out.old }
-    ensures reads_back { FitsFields (R.standing from.now) → length (capabilities_reply (R.standing from.now)) ≤ allocation → read_capabilities (take result out.new) ≡ Ok (told_capabilities (R.standing from.now)) }
+    ensures reads_back { length (capabilities_reply (R.standing from.now)) ≤ allocation → read_capabilities (take result out.new) ≡ Ok (told_capabilities (R.standing from.now)) }
 {
     let len = allocation.min(8);
     put_capabilities(from.preserve(), &mut out[..len]);
@@ -59,7 +60,7 @@ pub fn write_full<R: Registrants>(from: &R, allocation: usize, out: &mut [u8]) -
     ensures len { result ≡ min allocation (length (full_reply (R.standing from.now))) }
     ensures written { take result out.new ≡ take result (full_reply (R.standing from.now)) }
     ensures rest { drop result out.new ≡ drop result out.old }
-    ensures reads_back { FitsFields (R.standing from.now) → length (full_reply (R.standing from.now)) ≤ allocation → read_full (take result out.new) ≡ Ok (listed_entries (R.standing from.now)) }
+    ensures reads_back { length (full_reply (R.standing from.now)) ≤ allocation → read_full (take result out.new) ≡ Ok (listed_entries (R.standing from.now)) }
 {
     let len = allocation.min(full_length(from));
     put_full(from, &mut out[..len]);
@@ -78,13 +79,22 @@ fn keys_length<R: Registrants>(from: &R) -> usize
 fn put_keys<R: Registrants>(from: &R, out: &mut [u8])
     requires count { length (R.standing from.now).pairs ≤ 65536 }
     requires size { length out.old ≤ length (keys_reply (R.standing from.now)) }
-    ensures { out.new ≡ take (length out.old) (keys_reply (R.standing from.now)) }
+    ensures front { out.new ≡ take (length out.old) (keys_reply (R.standing from.now)) }
+    ensures fits { length out.old ≡ length (keys_reply (R.standing from.now)) → FitKeys (R.standing from.now) }
 {
     let count = from.count();
     put_head(out, from.generation(), 8 * count as u32);
     for i in 0..count.min(out.len() / 8) {
-        put(out, 8 + 8 * i, &from.at(i).1.0.to_be_bytes());
+        put(out, 8 + 8 * i, &listed_key(from.at(i).1));
     }
+}
+
+/// A key in the list of READ KEYS.
+fn listed_key(key: Key) -> [u8; 8]
+    ensures bytes { result ≡ to_be_bytes w64 key.0 }
+    ensures fits { key.0 < 2 ^ 64 }
+{
+    key.0.to_be_bytes()
 }
 
 /// How long the data of READ RESERVATION is.
@@ -102,7 +112,8 @@ fn reservation_length<R: Registrants>(from: &R) -> usize
 fn put_reservation<R: Registrants>(from: &R, out: &mut [u8])
     requires count { length (R.standing from.now).pairs ≤ 65536 }
     requires size { length out.old ≤ length (reservation_reply (R.standing from.now)) }
-    ensures { out.new ≡ take (length out.old) (reservation_reply (R.standing from.now)) }
+    ensures front { out.new ≡ take (length out.old) (reservation_reply (R.standing from.now)) }
+    ensures fits { FitsHeld (R.standing from.now) }
 {
     match (from.kind(), from.holder()) {
         (None, _) => put_head(out, from.generation(), 0),
@@ -176,7 +187,8 @@ fn full_length<R: Registrants>(from: &R) -> usize
 fn put_full<R: Registrants>(from: &R, out: &mut [u8])
     requires count { length (R.standing from.now).pairs ≤ 65536 }
     requires size { length out.old ≤ length (full_reply (R.standing from.now)) }
-    ensures { out.new ≡ take (length out.old) (full_reply (R.standing from.now)) }
+    ensures front { out.new ≡ take (length out.old) (full_reply (R.standing from.now)) }
+    ensures fits { length out.old ≡ length (full_reply (R.standing from.now)) → FitFields (R.standing from.now) }
 {
     let count = from.count();
     let (kind, holder) = (from.kind(), from.holder());
@@ -189,13 +201,14 @@ fn put_full<R: Registrants>(from: &R, out: &mut [u8])
 
 /// A descriptor of READ FULL STATUS.
 fn descriptor(kind: Option<Kind>, holder: Option<Nexus>, nexus: Nexus, key: Key) -> [u8; 48]
-    ensures { result ≡ spec_descriptor kind holder (record { nexus = nexus; key = key }) }
+    ensures bytes { result ≡ spec_descriptor kind holder (record { nexus = nexus; key = key }) }
+    ensures fits { FitsPair (record { nexus = nexus; key = key }) }
 {
     let k = key.0.to_be_bytes();
     let p = nexus.port.to_be_bytes();
     let n = nexus.name.to_be_bytes();
     let holds = u8::from(holds(kind, holder, nexus));
-    let code = held_code(kind, holder, nexus);
+    let code = type_byte(kind, holder, nexus);
     [
         k[0], k[1], k[2], k[3], k[4], k[5], k[6], k[7], 0, 0, 0, 0, holds, code, 0, 0, 0, 0, p[0],
         p[1], 0, 0, 0, 24, 6, 0, 0, 0, n[0], n[1], n[2], n[3], n[4], n[5], n[6], n[7], 0, 0, 0, 0,
@@ -215,7 +228,7 @@ fn holds(kind: Option<Kind>, holder: Option<Nexus>, nexus: Nexus) -> bool
 }
 
 /// The byte of scope and type of a registered nexus.
-fn held_code(kind: Option<Kind>, holder: Option<Nexus>, nexus: Nexus) -> u8
+fn type_byte(kind: Option<Kind>, holder: Option<Nexus>, nexus: Nexus) -> u8
     ensures { result ≡ spec_held_code kind holder nexus }
 {
     match (kind, holder) {

@@ -5,13 +5,6 @@ ghost use Rattle.pr_model.specs.Attentions.{powered_on, same_code, with_code, is
 use pr_words::Code;
 use std::marker::Model;
 
-/// POWER ON, RESET, OR BUS DEVICE RESET OCCURRED.
-const POWERED_ON: Code = Code {
-    key: 6,
-    asc: 0x29,
-    ascq: 0,
-};
-
 /// The unit attention conditions that wait for one nexus, in the order in which they arose (SAM-5).
 /// Each of the four that this target establishes waits at most once.
 #[derive(Drop)]
@@ -38,7 +31,7 @@ impl Attentions {
         ensures { result ≡ powered_on ∷ [] }
     {
         Attentions {
-            codes: [POWERED_ON; 4],
+            codes: [Code::POWER_ON; 4],
             len: 1,
         }
     }

@@ -4,3 +4,5 @@ pub mod Orderings
 pub mod Tables
 pub mod Told
 pub mod Noted
+pub mod Owns
+pub mod Places

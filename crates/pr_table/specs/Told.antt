@@ -6,13 +6,18 @@ use Rattle.pr_model.specs.Acts.{ReserveOut, Acted}
 use Rattle.pr_model.specs.Acts as model
 use Rattle.pr_model.specs.Keeping.{same_kept, kept}
 use Rattle.pr_grammar.specs.declared.param.OutList.{OutList}
+use Rattle.pr_words.specs.Services.{out_service_code}
 use Rattle.pr_table.specs.declared.request.OutAction.{OutAction}
+use Rattle.pr_table.specs.declared.request.OutRequest.{OutRequest}
 use Rattle.pr_table.specs.declared.verdict.Verdict.{Verdict}
 use Rattle.pr_table.specs.declared.verdict.Verdict.TheVariants.{Good, Conflict, Bad}
 
--- the command by its CDB and its parameter list
-abbrev pub asked : OutAction → OutList → ReserveOut
-asked a l = record { action = a.action; scope = a.scope; kind = a.kind; key = l.key; action_key = l.action_key; aptpl = l.aptpl }
+-- the command by its CDB, with the service action's number or its name, and by its parameter list
+abbrev pub numbered : OutAction → OutList → ReserveOut
+numbered a l = record { action = a.action; scope = a.scope; kind = a.kind; key = l.key; action_key = l.action_key; aptpl = l.aptpl }
+
+abbrev pub requested : OutRequest → OutList → ReserveOut
+requested r l = record { action = out_service_code r.service; scope = r.scope; kind = r.kind; key = l.key; action_key = l.action_key; aptpl = l.aptpl }
 
 -- the status, and whom GOOD tells of what
 abbrev pub Tells : Verdict → Acted → Type 0

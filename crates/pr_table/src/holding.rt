@@ -1,40 +1,13 @@
 ghost use Rattle.std.specs.Prelude.{option_map, ◌≡◌, List, length};
 ghost use Rattle.pr_words.specs.declared.nexus.Pair.{Pair as P};
-ghost use Rattle.pr_grammar.specs.Standings.{kind_of};
+ghost use Rattle.pr_grammar.specs.Standings.{kind_of, is_holder_in, is_registered as registers};
 ghost use Rattle.pr_model.specs.Registrants.{held};
-ghost use Rattle.pr_model.specs.Acts.{holder_left, without_holder, missed, is_of_all, held_code, while_any};
+ghost use Rattle.pr_model.specs.Acts.{holder_left, without_holder, missed, is_of_all, is_own, key_or_zero, held_code, while_any};
 ghost use Rattle.pr_model.specs.Keeping.{same_reservation, same_key};
 ghost use Rattle.pr_words.specs.declared.nexus.Key.{Key as K};
+ghost use Rattle.pr_table.specs.Owns.{names_key};
 
-use pr_words::{Code, Key, Kind, Nexus, Reservation, is_same};
-
-/// RESERVATIONS PREEMPTED.
-pub const CLEARED: Code = Code {
-    key: 6,
-    asc: 0x2A,
-    ascq: 3,
-};
-
-/// RESERVATIONS RELEASED.
-pub const RELEASED: Code = Code {
-    key: 6,
-    asc: 0x2A,
-    ascq: 4,
-};
-
-/// REGISTRATIONS PREEMPTED.
-pub const PREEMPTED: Code = Code {
-    key: 6,
-    asc: 0x2A,
-    ascq: 5,
-};
-
-/// A code with the sense key ILLEGAL REQUEST.
-pub fn illegal_request(asc: u8, ascq: u8) -> Code
-    ensures { result ≡ record { key = 5; asc = asc; ascq = ascq } }
-{
-    Code { key: 5, asc, ascq }
-}
+use pr_words::{Code, Key, Kind, Nexus, OutService, Reservation, is_same};
 
 /// The reservation of this type that a nexus takes.
 pub fn held(kind: Kind, nexus: Nexus) -> Reservation
@@ -42,7 +15,10 @@ pub fn held(kind: Kind, nexus: Nexus) -> Reservation
 {
     match kind {
         Kind::WriteAll | Kind::ExclusiveAll => Reservation::OfAll { kind },
-        _ => Reservation::OfOne {
+        Kind::WriteExclusive
+        | Kind::ExclusiveAccess
+        | Kind::WriteRegistrants
+        | Kind::ExclusiveRegistrants => Reservation::OfOne {
             kind,
             holder: nexus,
         },
@@ -71,6 +47,53 @@ pub fn held_code(reservation: &Reservation) -> u8
     }
 }
 
+/// Whether a nexus holds the reservation, by whether it is registered.
+pub fn holds(reservation: &Reservation, nexus: Nexus, is_registered: bool) -> bool
+    ensures { (ps : List P) → is_registered ≡ registers ps nexus → result ≡ is_holder_in reservation.now ps nexus }
+{
+    match reservation {
+        Reservation::Free => false,
+        Reservation::OfOne { holder, .. } => is_same(holder, &nexus),
+        Reservation::OfAll { .. } => is_registered,
+    }
+}
+
+/// Whether a nexus with this key, if it is registered, may ask for a service action with that RESERVATION
+/// KEY.
+pub fn names_key(service: OutService, own: Option<Key>, key: u64) -> bool
+    ensures { result ≡ names_key service (option_map (λ (k : K). k.0) own) key }
+{
+    match service {
+        OutService::Register => key_or_zero(own) == key,
+        OutService::RegisterAndIgnoreExistingKey => true,
+        OutService::Reserve
+        | OutService::Release
+        | OutService::Clear
+        | OutService::Preempt
+        | OutService::PreemptAndAbort => is_own(own, key),
+    }
+}
+
+/// A nexus's key, or zero where it isn't registered.
+fn key_or_zero(own: Option<Key>) -> u64
+    ensures { result ≡ key_or_zero (option_map (λ (k : K). k.0) own) }
+{
+    match own {
+        Some(own) => own.0,
+        None => 0,
+    }
+}
+
+/// Whether a nexus is registered, and with this key.
+pub fn is_own(own: Option<Key>, key: u64) -> bool
+    ensures { result ≡ is_own (option_map (λ (k : K). k.0) own) key }
+{
+    match own {
+        Some(own) => own.0 == key,
+        None => false,
+    }
+}
+
 /// Whether every registrant holds the reservation.
 pub fn is_of_all(reservation: &Reservation) -> bool
     ensures { result ≡ is_of_all reservation.now }
@@ -84,7 +107,8 @@ pub fn missed(kind: Kind) -> Option<Code>
 {
     match kind {
         Kind::WriteExclusive | Kind::ExclusiveAccess => None,
-        _ => Some(RELEASED),
+        Kind::WriteRegistrants | Kind::ExclusiveRegistrants | Kind::WriteAll | Kind::ExclusiveAll =>
+            Some(Code::RESERVATIONS_RELEASED),
     }
 }
 
@@ -100,7 +124,7 @@ pub fn holder_left(nexus: Nexus, reservation: &Reservation) -> Option<Code>
                 None
             }
         }
-        _ => None,
+        Reservation::Free | Reservation::OfAll { .. } => None,
     }
 }
 

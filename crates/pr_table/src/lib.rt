@@ -13,8 +13,8 @@ mod verdict;
 
 pub use kept::Kept;
 pub use pr_param::{OutList, Registrants};
-pub use pr_words::Pair;
-pub use request::OutAction;
+pub use pr_words::{OutService, Pair};
+pub use request::{OutAction, OutRequest};
 pub use table::Table;
 pub use verdict::{Change, Verdict};
 

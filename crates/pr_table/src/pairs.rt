@@ -3,7 +3,9 @@ ghost use Rattle.std.specs.List.{list_any};
 ghost use Rattle.pr_words.specs.declared.nexus.Key.{Key as K};
 ghost use Rattle.pr_grammar.specs.Standings.{is_at, is_registered, key_of};
 ghost use Rattle.pr_model.specs.Registrants.{IsAscending, has_key, with_pair, but_those, just_those, pair};
+ghost use Rattle.pr_model.specs.Places.{StandsAt};
 ghost use Rattle.pr_table.specs.Goes.{goes};
+ghost use Rattle.pr_table.specs.Places.{IsPlace, key_in};
 
 use crate::leaving::Leaving;
 use crate::places::{drop_at, fill, has_key, keep_those, place_of, put_in, take_out};
@@ -58,10 +60,28 @@ impl Pairs {
         self.items[i]
     }
 
+    /// The place of a nexus's registration, or else the place where it would stand.
+    pub fn place_of(&self, nexus: Nexus) -> Result<usize, usize>
+        ensures { IsPlace self.now.pairs nexus result }
+    {
+        place_of(self.items.as_slice(), nexus)
+    }
+
+    /// The key of the registration in a place, if there is one.
+    pub fn key_at(&self, place: Result<usize, usize>) -> Option<Key>
+        requires { IfOk place (λ i. i < length self.now.pairs) }
+        ensures { option_map (λ (k : K). k.0) result ≡ key_in self.now.pairs place }
+    {
+        match place {
+            Ok(place) => Some(self.items[place].key),
+            Err(_) => None,
+        }
+    }
+
     pub fn key_of(&self, nexus: Nexus) -> Option<Key>
         ensures { option_map (λ (k : K). k.0) result ≡ key_of self.now.pairs nexus }
     {
-        match place_of(self.items.as_slice(), nexus) {
+        match self.place_of(nexus) {
             Ok(place) => Some(self.items[place].key),
             Err(_) => None,
         }
@@ -70,7 +90,7 @@ impl Pairs {
     pub fn is_registered(&self, nexus: Nexus) -> bool
         ensures { result ≡ is_registered self.now.pairs nexus }
     {
-        place_of(self.items.as_slice(), nexus).is_ok()
+        self.place_of(nexus).is_ok()
     }
 
     /// Whether some registration has this key.
@@ -80,21 +100,21 @@ impl Pairs {
         has_key(self.items.as_slice(), key)
     }
 
-    /// Registers a nexus with a key, or gives it another key.
-    pub fn put_in(&mut self, nexus: Nexus, key: Key)
-        requires { is_registered self.old.pairs nexus ≡ false → length self.old.pairs < self.old.limit }
+    /// Registers a nexus with a key, or gives it another key, in its place.
+    pub fn put_in(&mut self, place: Result<usize, usize>, nexus: Nexus, key: Key)
+        requires place { IsPlace self.old.pairs nexus place }
+        requires room { is_registered self.old.pairs nexus ≡ false → length self.old.pairs < self.old.limit }
         ensures { self.new ≡ record { pairs = with_pair self.old.pairs (pair nexus key.0); limit = self.old.limit } }
     {
-        put_in(&mut self.items, nexus, key);
+        put_in(&mut self.items, place, nexus, key);
     }
 
-    /// Unregisters a nexus, and says whether it was registered.
-    pub fn drop_at(&mut self, nexus: Nexus) -> bool
-        ensures registered { result ≡ is_registered self.old.pairs nexus }
-        ensures same { result ≡ false → self.new ≡ self.old }
-        ensures after { self.new ≡ record { pairs = but_those (is_at nexus) self.old.pairs; limit = self.old.limit } }
+    /// Takes the registration in a place out.
+    pub fn drop_at(&mut self, place: usize)
+        requires { place < length self.old.pairs }
+        ensures { (n : Nexus) → StandsAt self.old.pairs n place → self.new ≡ record { pairs = but_those (is_at n) self.old.pairs; limit = self.old.limit } }
     {
-        drop_at(&mut self.items, nexus)
+        drop_at(&mut self.items, place);
     }
 
     /// Unregisters those that leave.

@@ -1,9 +1,10 @@
-ghost use Rattle.std.specs.Prelude.{◌≡◌, ◌+◌, ◌<◌, ◌≤◌, length, take, drop, vec_len, vec_capacity, [], ◌++◌, ◌∷◌, MatchResult, true, false, if◌then◌else◌};
+ghost use Rattle.std.specs.Prelude.{◌≡◌, suc, ◌+◌, ◌<◌, ◌≤◌, length, take, drop, vec_len, vec_capacity, [], ◌++◌, ◌∷◌, true, false, if◌then◌else◌};
 ghost use Rattle.std.specs.List.{filter, list_any};
 ghost use Rattle.pr_grammar.specs.Standings.{is_at, is_registered, key_of};
 ghost use Rattle.pr_model.specs.Registrants.{IsAscending, has_key, with_pair, but_those, just_those, pair};
-ghost use Rattle.pr_model.specs.Places.{StandsAt, LacksAt, Divides};
+ghost use Rattle.pr_model.specs.Places.{Divides};
 ghost use Rattle.pr_table.specs.Goes.{goes};
+ghost use Rattle.pr_table.specs.Places.{IsPlace};
 
 use crate::leaving::Leaving;
 use pr_words::{Key, Nexus, Pair, is_same, stands_before};
@@ -12,7 +13,7 @@ use pr_words::{Key, Nexus, Pair, is_same, stands_before};
 #[tactic(auto, using(pr_model::proofs::Places::found_from, pr_model::proofs::Places::lacking_from, pr_model::proofs::Places::lacking_behind))]
 pub fn place_of(pairs: &[Pair], nexus: Nexus) -> Result<usize, usize>
     requires { IsAscending pairs.now }
-    ensures { MatchResult result (StandsAt pairs.now nexus) (LacksAt pairs.now nexus) }
+    ensures { IsPlace pairs.now nexus result }
 {
     let place = first_not_before(pairs, nexus);
     if place == pairs.len() {
@@ -63,16 +64,17 @@ pub fn keep_those(pairs: &mut Vec<Pair>, leaving: Leaving)
     }
 }
 
-/// Puts a pair in, in its place, where there is room for it.
-pub fn put_in(pairs: &mut Vec<Pair>, nexus: Nexus, key: Key)
+/// Puts a pair in, in the place of its nexus, where there is room for it.
+pub fn put_in(pairs: &mut Vec<Pair>, place: Result<usize, usize>, nexus: Nexus, key: Key)
     requires ascending { IsAscending pairs.old.items }
+    requires place { IsPlace pairs.old.items nexus place }
     requires room { is_registered pairs.old.items nexus ≡ false → vec_len pairs.old < vec_capacity pairs.old }
     ensures ascending { IsAscending pairs.new.items }
     ensures pairs { pairs.new.items ≡ with_pair pairs.old.items (pair nexus key.0) }
     ensures len { vec_len pairs.new ≤ (if is_registered pairs.old.items nexus then vec_len pairs.old else vec_len pairs.old + 1) }
     ensures capacity { vec_capacity pairs.old ≤ vec_capacity pairs.new }
 {
-    match place_of(pairs.as_slice(), nexus) {
+    match place {
         Ok(place) => pairs[place] = Pair { nexus, key },
         Err(place) => {
             let _ = pairs.insert(place, Pair { nexus, key });
@@ -80,23 +82,16 @@ pub fn put_in(pairs: &mut Vec<Pair>, nexus: Nexus, key: Key)
     }
 }
 
-/// Takes a nexus's pair out, if it has one.
-pub fn drop_at(pairs: &mut Vec<Pair>, nexus: Nexus) -> bool
-    requires { IsAscending pairs.old.items }
-    ensures registered { result ≡ is_registered pairs.old.items nexus }
-    ensures kept { result ≡ false → pairs.new ≡ pairs.old }
+/// Takes the pair in a place out.
+pub fn drop_at(pairs: &mut Vec<Pair>, place: usize)
+    requires ascending { IsAscending pairs.old.items }
+    requires place { place < length pairs.old.items }
     ensures ascending { IsAscending pairs.new.items }
-    ensures pairs { pairs.new.items ≡ but_those (is_at nexus) pairs.old.items }
+    ensures pairs { pairs.new.items ≡ take place pairs.old.items ++ drop (suc place) pairs.old.items }
     ensures fewer { vec_len pairs.new ≤ vec_len pairs.old }
     ensures capacity { vec_capacity pairs.new ≡ vec_capacity pairs.old }
 {
-    match place_of(pairs.as_slice(), nexus) {
-        Ok(place) => {
-            pairs.remove(place);
-            true
-        }
-        Err(_) => false,
-    }
+    pairs.remove(place);
 }
 
 /// Whether some pair has this key.

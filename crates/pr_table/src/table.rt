@@ -1,16 +1,16 @@
 ghost use Rattle.std.specs.Prelude.{◌≡◌, ◌+◌, ◌<◌, ◌≤◌, length, [], IfOk, slice_get, Some, None, option_map, true, false};
 
 use crate::holding::{
-    CLEARED, PREEMPTED, RELEASED, held, held_code, holder_left, illegal_request, is_of_all,
-    is_same_key, is_same_reservation, kind_of, missed, while_any, without_holder,
+    held, held_code, holder_left, holds, is_of_all, is_own, is_same_key, is_same_reservation,
+    kind_of, missed, names_key, while_any, without_holder,
 };
 use crate::kept::{Kept, reservation_of};
 use crate::leaving::Leaving;
 use crate::pairs::Pairs;
-use crate::request::OutAction;
+use crate::request::{OutAction, OutRequest};
 use crate::verdict::{Change, Verdict};
 use pr_param::{OutList, Registrants};
-use pr_words::{Code, Key, Kind, Nexus, Pair, Reservation, is_same};
+use pr_words::{Code, Key, Kind, Nexus, OutService, Pair, Reservation, is_same};
 use std::alloc::{AllocError, Global};
 
 /// The registrations, the reservation, PRGENERATION and the APTPL bit that was accepted last
@@ -27,12 +27,14 @@ pub struct Table {
     ghost same_limit: { pairs.limit ≡ removed.limit },
 }
 
-/// What tells later whether what outlives a power loss has changed.
+/// What stood before an act: what tells later whether something else outlives a power loss, and the
+/// caller's key with the place of its registration.
 #[derive(Drop)]
 struct Note {
     preserve: bool,
     reservation: Reservation,
     count: usize,
+    place: Result<usize, usize>,
     key: Option<Key>,
 }
 
@@ -40,13 +42,15 @@ impl Table {
     ghost use Rattle.pr_words.specs.declared.reservation.Reservation.TheVariants.{Free};
     ghost use Rattle.pr_grammar.specs.Standings.{Standing, is_registered, is_holder, key_of};
     ghost use Rattle.pr_model.specs.Registrants.{IsAscending, IsWellFormed};
-    ghost use Rattle.pr_model.specs.Acts.{acted, key_or_zero, is_own, register, reserve, release, clear, removing, preempt, taking, is_holders_key};
-    ghost use Rattle.pr_model.specs.Keeping.{keeps_by, looks_same, same_reservation};
+    ghost use Rattle.pr_model.specs.Acts.{acted, register, reserve, release, clear, removing, preempt, taking, is_holders_key};
+    ghost use Rattle.pr_model.specs.Keeping.{keeps_by, same_reservation};
+    ghost use Rattle.pr_words.specs.Services.{out_service_code};
     ghost use Rattle.pr_model.specs.Worlds.{restored};
     ghost use Rattle.pr_table.specs.Tables.{standing_of, limit_of, removed_of};
-    ghost use Rattle.pr_table.specs.Told.{asked, Does, Keeps, Aborts};
+    ghost use Rattle.pr_table.specs.Told.{numbered, requested, Does, Keeps, Aborts};
     ghost use Rattle.pr_table.specs.Goes.{goes};
-    ghost use Rattle.pr_table.specs.Noted.{Notes};
+    ghost use Rattle.pr_table.specs.Noted.{Notes, looks_still};
+    ghost use Rattle.pr_table.specs.Places.{IsPlace};
 
     /// An empty table for at most `limit` registrations.
     ///
@@ -140,130 +144,156 @@ impl Table {
         self.removed.is_registered(nexus)
     }
 
-    /// Serves a PERSISTENT RESERVE OUT of a nexus, once the CDB's fields and the list's have passed
-    /// their checks: whether its key is the caller's, and the rules of its service action (SPC-4).
+    /// Serves a PERSISTENT RESERVE OUT whose service action is given by its number, as `serve` does.
     pub fn act(&mut self, nexus: Nexus, action: &OutAction, list: &OutList) -> Verdict
         requires { action.now.action ≤ 6 }
-        ensures does { Does (acted (limit_of self.old) (standing_of self.old) nexus (asked action.now list.now)) result (standing_of self.new) (removed_of self.new) }
+        ensures does { Does (acted (limit_of self.old) (standing_of self.old) nexus (numbered action.now list.now)) result (standing_of self.new) (removed_of self.new) }
         ensures keeps { Keeps result (standing_of self.old) (standing_of self.new) }
         ensures abort { Aborts result action.now.action }
         ensures limit { limit_of self.new ≡ limit_of self.old }
         ensures within { length (standing_of self.new).pairs ≤ limit_of self.new }
     {
+        let Some(service) = OutService::of(action.action) else {
+            return Verdict::Bad(Code::INVALID_FIELD_IN_CDB);
+        };
+        let request = OutRequest {
+            service,
+            scope: action.scope,
+            kind: action.kind,
+        };
+        self.serve(nexus, &request, list)
+    }
+
+    /// Serves a PERSISTENT RESERVE OUT of a nexus, once the CDB's fields and the list's have passed
+    /// their checks: whether its key is the caller's, and the rules of its service action (SPC-4).
+    pub fn serve(&mut self, nexus: Nexus, request: &OutRequest, list: &OutList) -> Verdict
+        ensures does { Does (acted (limit_of self.old) (standing_of self.old) nexus (requested request.now list.now)) result (standing_of self.new) (removed_of self.new) }
+        ensures keeps { Keeps result (standing_of self.old) (standing_of self.new) }
+        ensures abort { Aborts result (out_service_code request.now.service) }
+        ensures limit { limit_of self.new ≡ limit_of self.old }
+        ensures within { length (standing_of self.new).pairs ≤ limit_of self.new }
+    {
         let note = self.note(nexus);
-        let verdict = self.decide(nexus, action, list);
-        let keeps = self.keeps(&note, nexus);
+        let verdict = self.decide(nexus, &note, request, list);
+        let keeps = self.keeps(&note);
         match verdict {
             Verdict::Good(change) => Verdict::Good(Change {
-                removed: change.removed,
-                removed_code: change.removed_code,
-                stay_code: change.stay_code,
-                abort: action.action == 5,
+                abort: request.aborts(),
                 keeps,
+                ..change
             }),
             Verdict::Conflict => Verdict::Conflict,
             Verdict::Bad(code) => Verdict::Bad(code),
         }
     }
 
+    /// What stands before an act of a nexus.
     fn note(&self, nexus: Nexus) -> Note
         ensures notes { Notes result (standing_of self.now) nexus }
         ensures order { IsAscending (standing_of self.now).pairs }
     {
+        let place = self.pairs.place_of(nexus);
         Note {
             preserve: self.preserve,
             reservation: self.reservation,
             count: self.pairs.len(),
-            key: self.key_of(nexus),
+            place,
+            key: self.pairs.key_at(place),
         }
     }
 
     /// Whether something else outlives a power loss than when the note was taken.
-    fn keeps(&self, note: &Note, nexus: Nexus) -> bool
+    fn keeps(&self, note: &Note) -> bool
+        requires { IfOk note.now.place (λ i. i < note.now.count) }
         ensures within { length (standing_of self.now).pairs ≤ limit_of self.now }
-        ensures keeps { (s : Standing) → Notes note.now s nexus → result ≡ keeps_by s.preserve (standing_of self.now).preserve (looks_same s.pairs (standing_of self.now).pairs nexus) (same_reservation s.reservation (standing_of self.now).reservation) }
+        ensures keeps { (s : Standing) (n : Nexus) → Notes note.now s n → result ≡ keeps_by s.preserve (standing_of self.now).preserve (looks_still s.pairs (standing_of self.now).pairs n note.now.place) (same_reservation s.reservation (standing_of self.now).reservation) }
     {
-        let pairs = note.count == self.pairs.len() && is_same_key(note.key, self.key_of(nexus));
+        let pairs = self.is_still(note);
         let reservation = is_same_reservation(&note.reservation, &self.reservation);
         match (note.preserve, self.preserve) {
             (true, true) => !(pairs & reservation),
             (false, false) => false,
-            _ => true,
+            (true, false) | (false, true) => true,
         }
     }
 
-    fn decide(&mut self, nexus: Nexus, action: &OutAction, list: &OutList) -> Verdict
-        requires { action.now.action ≤ 6 }
-        ensures does { Does (acted (limit_of self.old) (standing_of self.old) nexus (asked action.now list.now)) result (standing_of self.new) (removed_of self.new) }
+    /// Whether there are as many registrations as when the note was taken, and the same key stands in
+    /// the caller's place.
+    fn is_still(&self, note: &Note) -> bool
+        requires { IfOk note.now.place (λ i. i < note.now.count) }
+        ensures within { length (standing_of self.now).pairs ≤ limit_of self.now }
+        ensures still { (s : Standing) (n : Nexus) → Notes note.now s n → result ≡ looks_still s.pairs (standing_of self.now).pairs n note.now.place }
+    {
+        if note.count != self.pairs.len() {
+            return false;
+        }
+        is_same_key(note.key, self.pairs.key_at(note.place))
+    }
+
+    /// The check of the registration, and the rules of the service action.
+    fn decide(&mut self, nexus: Nexus, note: &Note, request: &OutRequest, list: &OutList) -> Verdict
+        requires { Notes note.now (standing_of self.old) nexus }
+        ensures does { Does (acted (limit_of self.old) (standing_of self.old) nexus (requested request.now list.now)) result (standing_of self.new) (removed_of self.new) }
         ensures limit { limit_of self.new ≡ limit_of self.old }
     {
         self.removed.clear();
-        if action.action == 0 {
-            if self.key_or_zero(nexus) != list.key {
-                return Verdict::Conflict;
-            }
-            return self.register(nexus, list.action_key, list.aptpl);
-        }
-        if action.action == 6 {
-            return self.register(nexus, list.action_key, list.aptpl);
-        }
-        if !self.is_own(nexus, list.key) {
+        if !names_key(request.service, note.key, list.key) {
             return Verdict::Conflict;
         }
-        match action.action {
-            1 => self.reserve(nexus, action.kind),
-            2 => self.release(nexus, action.scope, action.kind),
-            3 => self.clear(),
-            _ => self.preempt(nexus, action.scope, action.kind, list.action_key),
-        }
-    }
-
-    /// A nexus's key, or zero where it isn't registered.
-    fn key_or_zero(&self, nexus: Nexus) -> u64
-        ensures { result ≡ key_or_zero (key_of (standing_of self.now).pairs nexus) }
-    {
-        match self.key_of(nexus) {
-            Some(own) => own.0,
-            None => 0,
-        }
-    }
-
-    /// Whether a nexus is registered with this key.
-    fn is_own(&self, nexus: Nexus, key: u64) -> bool
-        ensures { result ≡ is_own (key_of (standing_of self.now).pairs nexus) key }
-    {
-        match self.key_of(nexus) {
-            Some(own) => own.0 == key,
-            None => false,
+        match request.service {
+            OutService::Register | OutService::RegisterAndIgnoreExistingKey => self.register(
+                nexus,
+                note.place,
+                list.action_key,
+                list.aptpl,
+            ),
+            OutService::Reserve => self.reserve(nexus, note.place, request.kind),
+            OutService::Release => self.release(nexus, note.place, request.scope, request.kind),
+            OutService::Clear => self.clear(),
+            OutService::Preempt | OutService::PreemptAndAbort => self.preempt(
+                nexus,
+                note.key,
+                request,
+                list.action_key,
+            ),
         }
     }
 
     /// REGISTER and REGISTER AND IGNORE EXISTING KEY.
-    fn register(&mut self, nexus: Nexus, key: u64, aptpl: bool) -> Verdict
-        requires { removed_of self.old ≡ [] }
+    fn register(
+        &mut self,
+        nexus: Nexus,
+        place: Result<usize, usize>,
+        key: u64,
+        aptpl: bool,
+    ) -> Verdict
+        requires removed { removed_of self.old ≡ [] }
+        requires place { IsPlace (standing_of self.old).pairs nexus place }
         ensures does { Does (register (limit_of self.old) (standing_of self.old) nexus key aptpl) result (standing_of self.new) (removed_of self.new) }
         ensures limit { limit_of self.new ≡ limit_of self.old }
     {
         if key == 0 {
-            return self.unregister(nexus, aptpl);
+            return self.unregister(nexus, place, aptpl);
         }
-        if self.pairs.is_full() && !self.pairs.is_registered(nexus) {
-            return Verdict::Bad(illegal_request(0x55, 0x04));
+        if place.is_err() && self.pairs.is_full() {
+            return Verdict::Bad(Code::INSUFFICIENT_REGISTRATION_RESOURCES);
         }
-        self.pairs.put_in(nexus, Key(key));
+        self.pairs.put_in(place, nexus, Key(key));
         self.generation = self.generation.wrapping_add(1);
         self.preserve = aptpl;
         Verdict::Good(Change::telling(None))
     }
 
-    fn unregister(&mut self, nexus: Nexus, aptpl: bool) -> Verdict
-        requires { removed_of self.old ≡ [] }
+    fn unregister(&mut self, nexus: Nexus, place: Result<usize, usize>, aptpl: bool) -> Verdict
+        requires removed { removed_of self.old ≡ [] }
+        requires place { IsPlace (standing_of self.old).pairs nexus place }
         ensures does { Does (register (limit_of self.old) (standing_of self.old) nexus 0 aptpl) result (standing_of self.new) (removed_of self.new) }
         ensures limit { limit_of self.new ≡ limit_of self.old }
     {
-        if !self.pairs.drop_at(nexus) {
+        let Ok(place) = place else {
             return Verdict::Good(Change::telling(None));
-        }
+        };
+        self.pairs.drop_at(place);
         let stay_code = holder_left(nexus, &self.reservation);
         self.reservation = without_holder(nexus, self.pairs.len(), self.reservation);
         self.generation = self.generation.wrapping_add(1);
@@ -271,56 +301,42 @@ impl Table {
         Verdict::Good(Change::telling(stay_code))
     }
 
-    fn reserve(&mut self, nexus: Nexus, kind: u8) -> Verdict
-        requires { removed_of self.old ≡ [] }
+    fn reserve(&mut self, nexus: Nexus, place: Result<usize, usize>, kind: u8) -> Verdict
+        requires removed { removed_of self.old ≡ [] }
+        requires place { IsPlace (standing_of self.old).pairs nexus place }
         ensures does { Does (reserve (standing_of self.old) nexus kind) result (standing_of self.new) (removed_of self.new) }
         ensures limit { limit_of self.new ≡ limit_of self.old }
     {
-        let stays = match self.reservation {
-            Reservation::Free => {
-                let Some(asked) = Kind::of(kind) else {
-                    return Verdict::Bad(illegal_request(0x24, 0));
-                };
-                self.reservation = held(asked, nexus);
-                return Verdict::Good(Change::telling(None));
+        if let Some(own) = kind_of(&self.reservation) {
+            if !holds(&self.reservation, nexus, place.is_ok()) || own.code() != kind {
+                return Verdict::Conflict;
             }
-            Reservation::OfOne { kind: own, holder } => is_same(&holder, &nexus)
-                & (own.code() == kind),
-            Reservation::OfAll { kind: own } => own.code() == kind,
-        };
-        if stays {
-            Verdict::Good(Change::telling(None))
-        } else {
-            Verdict::Conflict
+            return Verdict::Good(Change::telling(None));
         }
+        let Some(asked) = Kind::of(kind) else {
+            return Verdict::Bad(Code::INVALID_FIELD_IN_CDB);
+        };
+        self.reservation = held(asked, nexus);
+        Verdict::Good(Change::telling(None))
     }
 
-    fn release(&mut self, nexus: Nexus, scope: u8, kind: u8) -> Verdict
-        requires { removed_of self.old ≡ [] }
+    fn release(&mut self, nexus: Nexus, place: Result<usize, usize>, scope: u8, kind: u8) -> Verdict
+        requires removed { removed_of self.old ≡ [] }
+        requires place { IsPlace (standing_of self.old).pairs nexus place }
         ensures does { Does (release (standing_of self.old) nexus scope kind) result (standing_of self.new) (removed_of self.new) }
         ensures limit { limit_of self.new ≡ limit_of self.old }
     {
         let Some(own) = kind_of(&self.reservation) else {
             return Verdict::Good(Change::telling(None));
         };
-        if !self.holds(nexus) {
+        if !holds(&self.reservation, nexus, place.is_ok()) {
             return Verdict::Good(Change::telling(None));
         }
         if scope != 0 || own.code() != kind {
-            return Verdict::Bad(illegal_request(0x26, 0x04));
+            return Verdict::Bad(Code::INVALID_RELEASE_OF_PERSISTENT_RESERVATION);
         }
         self.reservation = Reservation::Free;
         Verdict::Good(Change::telling(missed(own)))
-    }
-
-    fn holds(&self, nexus: Nexus) -> bool
-        ensures { result ≡ is_holder (standing_of self.now) nexus }
-    {
-        match self.reservation {
-            Reservation::Free => false,
-            Reservation::OfOne { holder, .. } => is_same(&holder, &nexus),
-            Reservation::OfAll { .. } => self.pairs.is_registered(nexus),
-        }
     }
 
     fn clear(&mut self) -> Verdict
@@ -328,52 +344,71 @@ impl Table {
         ensures does { Does (clear (standing_of self.old)) result (standing_of self.new) (removed_of self.new) }
         ensures limit { limit_of self.new ≡ limit_of self.old }
     {
-        let verdict = self.remove(Leaving::All, CLEARED, None);
+        let verdict = self.remove(Leaving::All, Code::RESERVATIONS_PREEMPTED, None);
         self.reservation = Reservation::Free;
         verdict
     }
 
-    /// PREEMPT and PREEMPT AND ABORT.
-    fn preempt(&mut self, nexus: Nexus, scope: u8, kind: u8, key: u64) -> Verdict
-        requires { removed_of self.old ≡ [] }
-        ensures does { Does (preempt (standing_of self.old) nexus scope kind key) result (standing_of self.new) (removed_of self.new) }
+    /// PREEMPT and PREEMPT AND ABORT of a nexus with this key.
+    fn preempt(&mut self, nexus: Nexus, own: Option<Key>, request: &OutRequest, key: u64) -> Verdict
+        requires removed { removed_of self.old ≡ [] }
+        requires own { option_map (λ (k : Key). k.0) own ≡ key_of (standing_of self.old).pairs nexus }
+        ensures does { Does (preempt (standing_of self.old) nexus request.now.scope request.now.kind key) result (standing_of self.new) (removed_of self.new) }
         ensures limit { limit_of self.new ≡ limit_of self.old }
     {
         if key == 0 {
             if !is_of_all(&self.reservation) {
-                return Verdict::Bad(illegal_request(0x26, 0));
+                return Verdict::Bad(Code::INVALID_FIELD_IN_PARAMETER_LIST);
             }
-            return self.take_over(nexus, scope, kind, Leaving::AllBut(nexus));
+            return self.take_over(nexus, request, Leaving::AllBut(nexus));
         }
-        if self.is_holders_key(key) {
-            return self.take_over(nexus, scope, kind, Leaving::KeyBut(Key(key), nexus));
+        if self.is_holders_key(nexus, own, key) {
+            return self.take_over(nexus, request, Leaving::KeyBut(Key(key), nexus));
         }
         if !self.pairs.has_key(Key(key)) {
             return Verdict::Conflict;
         }
-        let verdict = self.remove(Leaving::Key(Key(key)), PREEMPTED, None);
+        let verdict = self.remove(Leaving::Key(Key(key)), Code::REGISTRATIONS_PREEMPTED, None);
         self.reservation = while_any(self.pairs.len(), self.reservation);
         verdict
     }
 
+    /// Whether one nexus holds the reservation and is registered with this key. A nexus with its own
+    /// key is given, since it is mostly that one.
+    fn is_holders_key(&self, nexus: Nexus, own: Option<Key>, key: u64) -> bool
+        requires { option_map (λ (k : Key). k.0) own ≡ key_of (standing_of self.now).pairs nexus }
+        ensures { result ≡ is_holders_key (standing_of self.now) key }
+    {
+        match self.reservation {
+            Reservation::OfOne { holder, .. } => {
+                if is_same(&holder, &nexus) {
+                    is_own(own, key)
+                } else {
+                    is_own(self.pairs.key_of(holder), key)
+                }
+            }
+            Reservation::Free | Reservation::OfAll { .. } => false,
+        }
+    }
+
     /// Removes those that leave, and gives the reservation to the caller with the asked type.
-    fn take_over(&mut self, nexus: Nexus, scope: u8, kind: u8, leaving: Leaving) -> Verdict
+    fn take_over(&mut self, nexus: Nexus, request: &OutRequest, leaving: Leaving) -> Verdict
         requires { removed_of self.old ≡ [] }
-        ensures does { Does (taking (standing_of self.old) nexus scope kind (goes leaving)) result (standing_of self.new) (removed_of self.new) }
+        ensures does { Does (taking (standing_of self.old) nexus request.now.scope request.now.kind (goes leaving)) result (standing_of self.new) (removed_of self.new) }
         ensures limit { limit_of self.new ≡ limit_of self.old }
     {
-        if scope != 0 {
-            return Verdict::Bad(illegal_request(0x24, 0));
+        if request.scope != 0 {
+            return Verdict::Bad(Code::INVALID_FIELD_IN_CDB);
         }
-        let Some(asked) = Kind::of(kind) else {
-            return Verdict::Bad(illegal_request(0x24, 0));
+        let Some(asked) = Kind::of(request.kind) else {
+            return Verdict::Bad(Code::INVALID_FIELD_IN_CDB);
         };
-        let stay_code = if kind == held_code(&self.reservation) {
+        let stay_code = if request.kind == held_code(&self.reservation) {
             None
         } else {
-            Some(RELEASED)
+            Some(Code::RESERVATIONS_RELEASED)
         };
-        let verdict = self.remove(leaving, PREEMPTED, stay_code);
+        let verdict = self.remove(leaving, Code::REGISTRATIONS_PREEMPTED, stay_code);
         self.reservation = held(asked, nexus);
         verdict
     }
@@ -393,16 +428,6 @@ impl Table {
             abort: false,
             keeps: false,
         })
-    }
-
-    /// Whether one nexus holds the reservation and is registered with this key.
-    fn is_holders_key(&self, key: u64) -> bool
-        ensures { result ≡ is_holders_key (standing_of self.now) key }
-    {
-        match self.reservation {
-            Reservation::OfOne { holder, .. } => self.is_own(holder, key),
-            _ => false,
-        }
     }
 }
 
@@ -436,7 +461,7 @@ impl Registrants for Table {
     }
 
     fn is_holder(&self, nexus: Nexus) -> bool {
-        self.holds(nexus)
+        holds(&self.reservation, nexus, self.pairs.is_registered(nexus))
     }
 
     fn preserve(&self) -> bool {

@@ -8,20 +8,6 @@ use pr_io::Medium;
 use pr_words::{Code, TRANSFER, Way};
 use std::marker::Model;
 
-/// UNRECOVERED READ ERROR (SPC-4).
-const UNRECOVERED_READ_ERROR: Code = Code {
-    key: 3,
-    asc: 0x11,
-    ascq: 0,
-};
-
-/// WRITE ERROR (SPC-4).
-const WRITE_ERROR: Code = Code {
-    key: 3,
-    asc: 0x0C,
-    ascq: 0,
-};
-
 /// A READ or WRITE under way (SBC-3). A step moves one block of 512 bytes.
 ///
 /// A task has ended with the step that answers Done, Aborted or Fault.
@@ -110,12 +96,12 @@ impl Task {
             Way::Read => (
                 medium.read_block(lba, block),
                 StepOut::Read { lba },
-                UNRECOVERED_READ_ERROR,
+                Code::UNRECOVERED_READ_ERROR,
             ),
             Way::Write => (
                 medium.write_block(lba, block),
                 StepOut::Wrote { lba },
-                WRITE_ERROR,
+                Code::WRITE_ERROR,
             ),
         };
         match moved {

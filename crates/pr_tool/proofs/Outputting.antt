@@ -1,6 +1,6 @@
 -- Output that is written record by record.
 use Rattle.std.proofs.Common.{◌≡◌, ℕ, suc, zero, ◌+◌, ◌-◌, ◌≤◌, ◌<◌, false, eqb, List, [], ◌++◌, length, take, drop, Option, min, refl, sym, ap, ◌∙◌, append_assoc, subst, arith, inl, inr}
-use Rattle.std.proofs.lemmas.List.{append-nil, take_all, drop_all, drop-drop, length-take, length-drop}
+use Rattle.std.proofs.lemmas.List.{append-nil, take_all, drop_all, drop-drop, length-take, length-drop, length-append}
 use Rattle.std.proofs.Math.Seq.{take-add}
 use Rattle.std.proofs.lemmas.Bool.{ne_eqb, eq-eqb, cases_lt}
 use Rattle.pr_io.specs.Streams.{Put, PutSome}
@@ -84,6 +84,7 @@ written_some before mid now who bytes at n less is has put =
       put.1 ++ rest,
       has.2 ∙ ap (λ (w : List ℕ). has.0 ++ w) (step_text who bytes at n less is ∙ ap (λ (w : List ℕ). w ++ rest) put.2 ∙ append_assoc put.0 put.1 rest) ∙ sym (append_assoc has.0 put.0 (put.1 ++ rest)),
       put_more before mid now has.0 put.0 has.1 put.3,
+      omega (arith, length-append put.1 rest, put.4),
     )
 
 pub written_all : (before now : Option (List ℕ)) (who : ℕ) (bytes : List ℕ) (at : ℕ) → length bytes ≤ at → HasWritten before now who bytes at → Put before now (output_of who bytes)

@@ -5,6 +5,7 @@ use Rattle.std.proofs.lemmas.Option.{slice_get_within, slice_get-map, slice_get-
 use Rattle.std.proofs.lemmas.List.{map-set, map-append, length-map, length-replicate, get_or-replicate, replicate-append-replicate}
 use Rattle.std.proofs.lemmas.Bool.{cases_eq}
 use Rattle.pr_words.specs.declared.nexus.Nexus.{Nexus}
+use Rattle.pr_io.specs.Told.{ToldSink}
 use Rattle.pr_grammar.specs.Schedules.{Record, Arrival, Step_of, Close_of, IsRecord, lane_of}
 use Rattle.pr_model.specs.Lanes.{Lane, Phase, Fresh, In, Dead, fresh}
 use Rattle.pr_model.specs.Runs.{Deed, ActsOn}
@@ -57,10 +58,10 @@ all_agree lanes i m old new within agree keeps agrees place l is =
     ]
 
 -- what a lane did, it did among all
-pub ran_on : {M D : Type 0} {gm : media.Ghosts M} {gd : disks.Ghosts D} (Acts : Record → Lane → Deed → Lane → Type 0) (r : Record) (lanes : List Lane) (l m : Lane) (old new : Core M D gm gd) (a b : Option (List ℕ)) (lost : List ℕ)
-    → slice_get lanes (lane_of r) ≡ Some l → Ran (Acts r) a b old l new m lost → Ran (ActsOn Acts r) a b old lanes new (slice_set lanes (lane_of r) m) lost
-ran_on Acts r lanes l m old new a b lost is ran =
-    record { entries = ran.entries; output = ran.output; sent = ran.sent; acts = (l, m, is, ran.acts, refl); extends = ran.extends; puts = ran.puts; all = ran.all }
+pub ran_on : {M D : Type 0} {gm : media.Ghosts M} {gd : disks.Ghosts D} (Acts : Record → Lane → Deed → Lane → Type 0) (r : Record) (lanes : List Lane) (l m : Lane) (old new : Core M D gm gd) (a b : ToldSink)
+    → slice_get lanes (lane_of r) ≡ Some l → Ran (Acts r) a b old l new m → Ran (ActsOn Acts r) a b old lanes new (slice_set lanes (lane_of r) m)
+ran_on Acts r lanes l m old new a b is ran =
+    record { entries = ran.entries; output = ran.output; acts = (l, m, is, ran.acts, refl); extends = ran.extends; puts = ran.puts }
 
 -- the same of sessions
 
@@ -72,22 +73,22 @@ below lanes (Close_of lane) valid = valid
 pub session_at : (sessions : List Session) (i : ℕ) (d : Session) → i < length sessions → slice_get (lanes_of sessions) i ≡ Some (sess.lane_of (slice_index_or sessions i d))
 session_at sessions i d within = slice_get-map sess.lane_of sessions i ∙ ap (option_map sess.lane_of) (slice_get-get_or sessions i d within)
 
-pub session_ran : {M D : Type 0} {gm : media.Ghosts M} {gd : disks.Ghosts D} (Acts : Record → Lane → Deed → Lane → Type 0) (r : Record) (sessions : List Session) (i : ℕ) (d t : Session) (old new : Core M D gm gd) (a b : Option (List ℕ)) (lost : List ℕ)
-    → i ≡ lane_of r → i < length sessions → Ran (Acts r) a b old (sess.lane_of (slice_index_or sessions i d)) new (sess.lane_of t) lost
-    → Ran (ActsOn Acts r) a b old (lanes_of sessions) new (lanes_of (slice_set sessions i t)) lost
-session_ran Acts r sessions i d t old new a b lost at within ran =
+pub session_ran : {M D : Type 0} {gm : media.Ghosts M} {gd : disks.Ghosts D} (Acts : Record → Lane → Deed → Lane → Type 0) (r : Record) (sessions : List Session) (i : ℕ) (d t : Session) (old new : Core M D gm gd) (a b : ToldSink)
+    → i ≡ lane_of r → i < length sessions → Ran (Acts r) a b old (sess.lane_of (slice_index_or sessions i d)) new (sess.lane_of t)
+    → Ran (ActsOn Acts r) a b old (lanes_of sessions) new (lanes_of (slice_set sessions i t))
+session_ran Acts r sessions i d t old new a b at within ran =
     let lanes : List Lane = lanes_of sessions in
     let found : slice_get lanes (lane_of r) ≡ Some (sess.lane_of (slice_index_or sessions i d)) = ap (slice_get lanes) (sym at) ∙ session_at sessions i d within in
     let same : lanes_of (slice_set sessions i t) ≡ slice_set lanes (lane_of r) (sess.lane_of t) = map-set sess.lane_of sessions i t ∙ ap (λ (k : ℕ). slice_set lanes k (sess.lane_of t)) at in
-    subst (λ (last : List Lane). Ran (ActsOn Acts r) a b old lanes new last lost) (sym same) (ran_on Acts r lanes (sess.lane_of (slice_index_or sessions i d)) (sess.lane_of t) old new a b lost found ran)
+    subst (λ (last : List Lane). Ran (ActsOn Acts r) a b old lanes new last) (sym same) (ran_on Acts r lanes (sess.lane_of (slice_index_or sessions i d)) (sess.lane_of t) old new a b found ran)
 
-pub session_begun : {M D : Type 0} {gm : media.Ghosts M} {gd : disks.Ghosts D} (Acts : Record → Lane → Deed → Lane → Type 0) (r : Record) (sessions : List Session) (i : ℕ) (d : Session) (old new : Core M D gm gd) (a b : Option (List ℕ))
-    → i ≡ lane_of r → i < length sessions → ((m : Lane) × (lost : List ℕ) × Ran (Acts r) a b old (sess.lane_of (slice_index_or sessions i d)) new m lost)
-    → (last : List Lane) × (lost : List ℕ) × Ran (ActsOn Acts r) a b old (lanes_of sessions) new last lost
-session_begun Acts r sessions i d old new a b at within begun =
+pub session_cut : {M D : Type 0} {gm : media.Ghosts M} {gd : disks.Ghosts D} (Acts : Record → Lane → Deed → Lane → Type 0) (r : Record) (sessions : List Session) (i : ℕ) (d : Session) (old new : Core M D gm gd) (a b : ToldSink)
+    → i ≡ lane_of r → i < length sessions → ((m : Lane) × Ran (Acts r) a b old (sess.lane_of (slice_index_or sessions i d)) new m)
+    → (last : List Lane) × Ran (ActsOn Acts r) a b old (lanes_of sessions) new last
+session_cut Acts r sessions i d old new a b at within cut =
     let lanes : List Lane = lanes_of sessions in
     let found : slice_get lanes (lane_of r) ≡ Some (sess.lane_of (slice_index_or sessions i d)) = ap (slice_get lanes) (sym at) ∙ session_at sessions i d within in
-    (slice_set lanes (lane_of r) begun.0, begun.1, ran_on Acts r lanes (sess.lane_of (slice_index_or sessions i d)) begun.0 old new a b begun.1 found begun.2)
+    (slice_set lanes (lane_of r) cut.0, ran_on Acts r lanes (sess.lane_of (slice_index_or sessions i d)) cut.0 old new a b found cut.1)
 
 pub session_agrees : {M D : Type 0} {gm : media.Ghosts M} {gd : disks.Ghosts D} (sessions : List Session) (i : ℕ) (d : Session) (c : Core M D gm gd) → i < length sessions → AllAgree (lanes_of sessions) c → Agrees (sess.lane_of (slice_index_or sessions i d)).phase i c
 session_agrees sessions i d c within agree = agree i (sess.lane_of (slice_index_or sessions i d)) (session_at sessions i d within)

@@ -9,7 +9,7 @@ use Rattle.std.proofs.Math.Seq.{take-append-add}
 use Rattle.pr_words.specs.declared.nexus.Side.{Side}
 use Rattle.pr_words.specs.declared.nexus.Side.TheVariants.{Target}
 use Rattle.pr_io.specs.Streams.{Took, Put, PutSome, HasEnded}
-use Rattle.pr_io.specs.Causes.{Rose}
+use Rattle.pr_io.specs.Causes.{next_fault}
 use Rattle.pr_io.proofs.Pieces.{put_more, took_more, put_nothing, took_nothing}
 use Rattle.pr_io.proofs.Sent.{some_first, some_second}
 use Rattle.pr_grammar.specs.Frames.{Frame, Front, Short, Broken, Whole, front, frame_size}
@@ -19,7 +19,8 @@ use Rattle.pr_link.specs.Streams.{Stream, Gives, GivesIf, GivesAt, Feeds, FeedsI
 use Rattle.pr_link.specs.declared.frame.Got.{Got}
 use Rattle.pr_link.specs.declared.frame.Got.TheVariants as got
 use Rattle.pr_tool.specs.Reading.{IsAtEnd}
-use Rattle.pr_tool.specs.Showing.{HasRead, Shows, IsShort, IsLong, Causes, Decides, Going, Stands, EndsWith, Finds}
+use Rattle.pr_tool.specs.Counting.{sink_faults, CountsSource, CountsSourceBy}
+use Rattle.pr_tool.specs.Showing.{HasRead, Shows, EndsWithin, RunsOver, ShowCauses, ShowDecides, Going, ViewerEnds, EndsWith, Finds}
 use Rattle.pr_tool.specs.declared.exit.Exit.{Exit}
 use Rattle.pr_tool.specs.declared.exit.Exit.TheVariants as exits
 
@@ -117,15 +118,15 @@ text_some wa wb wc sent text last all one two is =
 
 -- the last line was written, or the sink failed
 done_ends : (budget fa fb : ℕ) (ra rc wa wb wc : Option (List ℕ)) (result : Exit) (r : HasRead ra rc) (sent text last : List ℕ) → EndsWith exits.Done result wb wc (text ++ last) fa fb
-    → Put wa wb sent → flat_map line_of r.frames ≡ sent ++ text → last ≡ last_line r.frames r.tail (front Target r.tail) → IsAtEnd rc ⊎ HasBroken Target r.read → Causes exits.Done budget ra
-    → Stands budget ra rc wa wc result
+    → Put wa wb sent → flat_map line_of r.frames ≡ sent ++ text → last ≡ last_line r.frames r.tail (front Target r.tail) → IsAtEnd rc ⊎ HasBroken Target r.read → ShowCauses exits.Done budget ra
+    → ViewerEnds budget ra rc wa wc result
 done_ends budget fa fb ra rc wa wb wc result r sent text last ends puts lines is why cause =
     elim ends [
       | inl done ↦
-          subst (λ (e : Exit). Stands budget ra rc wa wc e) (sym done.0)
+          subst (λ (e : Exit). ViewerEnds budget ra rc wa wc e) (sym done.0)
           ((r, subst (λ (w : List ℕ). Put wa wc (flat_map line_of r.frames ++ w)) is (text_put wa wb wc sent text last (flat_map line_of r.frames) puts done.1 lines), why), cause, tt)
       | inr failed ↦
-          subst (λ (e : Exit). Stands budget ra rc wa wc e) (sym failed.0)
+          subst (λ (e : Exit). ViewerEnds budget ra rc wa wc e) (sym failed.0)
           ((r, subst (λ (w : List ℕ). PutSome wa wc (flat_map line_of r.frames ++ w)) is (text_some wa wb wc sent text last (flat_map line_of r.frames) puts failed.1 lines)), tt, tt)
     ]
 
@@ -134,7 +135,7 @@ took_none None b took = took
 took_none (Some xs) None took = absurd took
 took_none (Some xs) (Some ys) took = ap Some (sym took)
 
-end_cause : (budget left : ℕ) (ra rb : Option (List ℕ)) (read : List ℕ) → Took ra rb read → length read + left ≡ budget → IsAtEnd rb → Causes exits.Done budget ra
+end_cause : (budget left : ℕ) (ra rb : Option (List ℕ)) (read : List ℕ) → Took ra rb read → length read + left ≡ budget → IsAtEnd rb → ShowCauses exits.Done budget ra
 end_cause budget left None rb read took looked ended = tt
 end_cause budget left (Some all) None read took looked ended = absurd took
 end_cause budget left (Some all) (Some rest) read took looked ended =
@@ -143,15 +144,15 @@ end_cause budget left (Some all) (Some rest) read took looked ended =
 
 -- the stream ends where bytes lack
 pub end_stands : (budget left count k fa fb : ℕ) (ra rb rc wa wb wc : Option (List ℕ)) (s : Stream) (text : List ℕ) (result : Exit) → (g : Going budget ra rb wa wb s text count left)
-    → front Target s.held ≡ Short k → Took rb rc [] → IsAtEnd rc → EndsWith exits.Done result wb wc (text ++ last_line g.frames s.held (Short k)) fa fb → Stands budget ra rc wa wc result
+    → front Target s.held ≡ Short k → Took rb rc [] → IsAtEnd rc → EndsWith exits.Done result wb wc (text ++ last_line g.frames s.held (Short k)) fa fb → ViewerEnds budget ra rc wa wc result
 end_stands budget left count k fa fb ra rb rc wa wb wc s text result g short took ended ends =
     let same : rc ≡ rb = took_none rb rc took in
     let here : HasRead ra rb = read_short budget left count k ra rb wa wb s text g short in
     let at_end : IsAtEnd rb = subst IsAtEnd same ended in
-    subst (λ (x : Option (List ℕ)). Stands budget ra x wa wc result) (sym same)
+    subst (λ (x : Option (List ℕ)). ViewerEnds budget ra x wa wc result) (sym same)
     (done_ends budget fa fb ra rb wa wb wc result here g.sent text (last_line g.frames s.held (Short k)) ends g.puts g.lines (ap (last_line g.frames s.held) (sym short)) (inl at_end) (end_cause budget left ra rb g.read g.took g.looked at_end))
 
-broken_cause : (budget : ℕ) (ra rb : Option (List ℕ)) (read : List ℕ) → Took ra rb read → length read ≤ budget → HasBroken Target read → Causes exits.Done budget ra
+broken_cause : (budget : ℕ) (ra rb : Option (List ℕ)) (read : List ℕ) → Took ra rb read → length read ≤ budget → HasBroken Target read → ShowCauses exits.Done budget ra
 broken_cause budget None rb read took looked bad = tt
 broken_cause budget (Some all) None read took looked bad = absurd took
 broken_cause budget (Some all) (Some rest) read took looked bad =
@@ -163,7 +164,7 @@ broken_cause budget (Some all) (Some rest) read took looked bad =
 -- a frame breaks a rule
 pub bad_stands : (budget left count k r fa fb : ℕ) (ra rb rc wa wb wc : Option (List ℕ)) (s : Stream) (text piece : List ℕ) (result : Exit) → (g : Going budget ra rb wa wb s text count left)
     → front Target s.held ≡ Short k → Took rb rc piece → 0 < length piece → length piece ≤ k → length piece ≤ left → front Target (s.held ++ piece) ≡ Broken r
-    → EndsWith exits.Done result wb wc (text ++ last_line g.frames (s.held ++ piece) (Broken r)) fa fb → Stands budget ra rc wa wc result
+    → EndsWith exits.Done result wb wc (text ++ last_line g.frames (s.held ++ piece) (Broken r)) fa fb → ViewerEnds budget ra rc wa wc result
 bad_stands budget left count k r fa fb ra rb rc wa wb wc s text piece result g short took some few looked broken ends =
     let read : List ℕ = g.read ++ piece in
     let tail : List ℕ = s.held ++ piece in
@@ -183,25 +184,25 @@ bad_stands budget left count k r fa fb ra rb rc wa wb wc s text piece result g s
     (broken_cause budget ra rc read all (omega (arith, g.looked, looked, length-append g.read piece)) bad)
 
 fault_here : (budget left count k fa fb : ℕ) (ra rb wa wb wc : Option (List ℕ)) (s : Stream) (text : List ℕ) (result : Exit) → Going budget ra rb wa wb s text count left
-    → front Target s.held ≡ Short k → EndsWith exits.ReadFault result wb wc text fa fb → Stands budget ra rb wa wc result
+    → front Target s.held ≡ Short k → EndsWith exits.ReadFault result wb wc text fa fb → ViewerEnds budget ra rb wa wc result
 fault_here budget left count k fa fb ra rb wa wb wc s text result g short ends =
     let here : HasRead ra rb = read_short budget left count k ra rb wa wb s text g short in
     elim ends [
-      | inl done ↦ subst (λ (e : Exit). Stands budget ra rb wa wc e) (sym done.0) ((here, subst (λ (w : List ℕ). Put wa wc w) (sym g.lines) (put_more wa wb wc g.sent text g.puts done.1), (k, short)), tt, tt)
+      | inl done ↦ subst (λ (e : Exit). ViewerEnds budget ra rb wa wc e) (sym done.0) ((here, subst (λ (w : List ℕ). Put wa wc w) (sym g.lines) (put_more wa wb wc g.sent text g.puts done.1), (k, short)), tt, tt)
       | inr failed ↦ (
           let front_of : PutSome wa wc (flat_map line_of g.frames) = subst (λ (w : List ℕ). PutSome wa wc w) (sym g.lines) (some_second wa wb wc g.sent text g.puts failed.1) in
-          subst (λ (e : Exit). Stands budget ra rb wa wc e) (sym failed.0) ((here, some_first wa wc (flat_map line_of g.frames) (last_line g.frames s.held (front Target s.held)) front_of), tt, tt)
+          subst (λ (e : Exit). ViewerEnds budget ra rb wa wc e) (sym failed.0) ((here, some_first wa wc (flat_map line_of g.frames) (last_line g.frames s.held (front Target s.held)) front_of), tt, tt)
           )
     ]
 
 -- the source failed where bytes lack
 pub fault_stands : (budget left count k fa fb : ℕ) (ra rb rc wa wb wc : Option (List ℕ)) (s : Stream) (text : List ℕ) (result : Exit) → Going budget ra rb wa wb s text count left
-    → front Target s.held ≡ Short k → rc ≡ rb → EndsWith exits.ReadFault result wb wc text fa fb → Stands budget ra rc wa wc result
+    → front Target s.held ≡ Short k → rc ≡ rb → EndsWith exits.ReadFault result wb wc text fa fb → ViewerEnds budget ra rc wa wc result
 fault_stands budget left count k fa fb ra rb rc wa wb wc s text result g short same ends =
-    subst (λ (x : Option (List ℕ)). Stands budget ra x wa wc result) (sym same) (fault_here budget left count k fa fb ra rb wa wb wc s text result g short ends)
+    subst (λ (x : Option (List ℕ)). ViewerEnds budget ra x wa wc result) (sym same) (fault_here budget left count k fa fb ra rb wa wb wc s text result g short ends)
 
 long_cause : (budget k : ℕ) (ra rb rc : Option (List ℕ)) (read more held : List ℕ) (fs : List Frame) → Took ra rb read → Took rb rc more → length read ≡ budget → length more ≡ 1
-    → AreFrames Target read fs held → front Target held ≡ Short k → Causes exits.TooLong budget ra
+    → AreFrames Target read fs held → front Target held ≡ Short k → ShowCauses exits.TooLong budget ra
 long_cause budget k None rb rc read more held fs took behind looked one parts short = tt
 long_cause budget k (Some all) None rc read more held fs took behind looked one parts short = absurd took
 long_cause budget k (Some all) (Some rest) None read more held fs took behind looked one parts short = absurd behind
@@ -275,23 +276,23 @@ lines_some wa wb wc sent text lines puts some is = subst (λ (w : List ℕ). Put
 
 -- more comes where no more is looked at
 pub long_stands : (budget left count k fa fb : ℕ) (ra rb rc wa wb wc : Option (List ℕ)) (s : Stream) (text more : List ℕ) (result : Exit) → Going budget ra rb wa wb s text count left
-    → front Target s.held ≡ Short k → left ≡ 0 → Took rb rc more → length more ≡ 1 → EndsWith exits.TooLong result wb wc text fa fb → Stands budget ra rc wa wc result
+    → front Target s.held ≡ Short k → left ≡ 0 → Took rb rc more → length more ≡ 1 → EndsWith exits.TooLong result wb wc text fa fb → ViewerEnds budget ra rc wa wc result
 long_stands budget left count k fa fb ra rb rc wa wb wc s text more result g short none behind one ends =
     let here : HasRead ra rb = read_short budget left count k ra rb wa wb s text g short in
     let some : 0 < k = short_some Target s.held k short in
     let on : ReadOn ra rc (flat_map line_of g.frames) = read_on (front Target (s.held ++ more)) budget left count k ra rb rc wa wb s text more g short behind (omega (arith, one)) (omega (arith, one, some)) refl in
     elim ends [
       | inl done ↦
-          subst (λ (e : Exit). Stands budget ra rc wa wc e) (sym done.0)
+          subst (λ (e : Exit). ViewerEnds budget ra rc wa wc e) (sym done.0)
           ((rb, more, here, subst (λ (w : List ℕ). Put wa wc w) (sym g.lines) (put_more wa wb wc g.sent text g.puts done.1), (k, short), behind, one), long_cause budget k ra rb rc g.read more s.held g.frames g.took behind (omega (arith, g.looked, none)) one g.parts short, tt)
       | inr failed ↦
-          subst (λ (e : Exit). Stands budget ra rc wa wc e) (sym failed.0)
+          subst (λ (e : Exit). ViewerEnds budget ra rc wa wc e) (sym failed.0)
           ((on.here, some_of wa wc (flat_map line_of g.frames) on.later (text_of on.here.frames on.here.tail) (lines_some wa wb wc g.sent text (flat_map line_of g.frames) g.puts failed.1 g.lines) on.is), tt, tt)
     ]
 
 -- the lines up to a frame's weren't all written
 pub frame_fault : (budget left count k : ℕ) (ra rb rc wa wb wc : Option (List ℕ)) (s : Stream) (text piece rest : List ℕ) (f : Frame) → Going budget ra rb wa wb s text count left → front Target s.held ≡ Short k
-    → Took rb rc piece → length piece ≤ k → front Target (s.held ++ piece) ≡ Whole f rest → PutSome wb wc (text ++ line_of f) → Stands budget ra rc wa wc exits.WriteFault
+    → Took rb rc piece → length piece ≤ k → front Target (s.held ++ piece) ≡ Whole f rest → PutSome wb wc (text ++ line_of f) → ViewerEnds budget ra rc wa wc exits.WriteFault
 frame_fault budget left count k ra rb rc wa wb wc s text piece rest f g short took few whole some =
     let parts : AreFrames Target (g.read ++ piece) (g.frames ++ f ∷ []) rest = frames_one Target (g.read ++ piece) g.frames (s.held ++ piece) f rest (frames_more Target g.read piece g.frames s.held g.parts) whole in
     let none : rest ≡ [] = whole_tight Target s.held piece k f rest short few whole in
@@ -345,10 +346,10 @@ fed_all s t piece count feeds unbroken room =
     fed.1 ∙ ap (λ (w : List ℕ). record s { held = s.held ++ w }) all
 
 -- the causes exclude each other
-not_both : (budget : ℕ) (all : List ℕ) → IsShort budget all → IsLong budget all → ⊥
+not_both : (budget : ℕ) (all : List ℕ) → EndsWithin budget all → RunsOver budget all → ⊥
 not_both budget all short long = elim short [ inl few ↦ absurd (omega (arith, few, long.0)) | inr bad ↦ long.1 bad ]
 
-pub shows_decide : (e : Exit) (budget : ℕ) (ra rb wa wb : Option (List ℕ)) → Shows e ra rb wa wb → Causes e budget ra → Decides e budget ra
+pub shows_decide : (e : Exit) (budget : ℕ) (ra rb wa wb : Option (List ℕ)) → Shows e ra rb wa wb → ShowCauses e budget ra → ShowDecides e budget ra
 shows_decide e budget None rb wa wb shows cause = tt
 shows_decide exits.Done budget (Some all) rb wa wb shows cause = (λ s. inr refl, λ l. absurd (not_both budget all cause l))
 shows_decide exits.BadWords budget (Some all) rb wa wb shows cause = absurd shows
@@ -380,9 +381,43 @@ pub ends_unread : (e result : Exit) (wa wb : Option (List ℕ)) (xs : List ℕ) 
 ends_unread e result wa wb xs fa fb ends other is =
     elim ends [ inl done ↦ other (sym done.0 ∙ is) | inr failed ↦ (let no : exits.WriteFault ≡ exits.ReadFault = sym failed.0 ∙ is in cc) ]
 
-pub ends_unwritten : (e result : Exit) (wa wb : Option (List ℕ)) (xs : List ℕ) (fa fb : ℕ) → EndsWith e result wa wb xs fa fb → (e ≡ exits.WriteFault → ⊥) → result ≡ exits.WriteFault → Rose fa fb
-ends_unwritten e result wa wb xs fa fb ends other is =
-    elim ends [ inl done ↦ absurd (other (sym done.0 ∙ is)) | inr failed ↦ failed.2 ]
+unfailed : (e : Exit) (n : ℕ) → (e ≡ exits.WriteFault → ⊥) → sink_faults e n ≡ n
+unfailed exits.Done n other = refl
+unfailed exits.BadWords n other = refl
+unfailed exits.ReadFault n other = refl
+unfailed exits.WriteFault n other = absurd (other refl)
+unfailed (exits.BadSchedule place) n other = refl
+unfailed exits.NoMemory n other = refl
+unfailed exits.TooLong n other = refl
+
+-- how often the streams have failed by then
+
+pub ends_counted : (e result : Exit) (wa wb : Option (List ℕ)) (xs : List ℕ) (fa fb : ℕ) → EndsWith e result wa wb xs fa fb → (e ≡ exits.WriteFault → ⊥) → fb ≡ sink_faults result fa
+ends_counted e result wa wb xs fa fb ends other =
+    elim ends [
+      | inl done ↦ done.2 ∙ sym (ap (λ (x : Exit). sink_faults x fa) done.0 ∙ unfailed e fa other)
+      | inr failed ↦ failed.2 ∙ sym (ap (λ (x : Exit). sink_faults x fa) failed.0)
+    ]
+
+pub fault_counted : (result : Exit) (wa wb : Option (List ℕ)) (xs : List ℕ) (fa fb before now : ℕ) → EndsWith exits.ReadFault result wa wb xs fa fb → now ≡ next_fault before → CountsSource result before now
+fault_counted result wa wb xs fa fb before now ends is =
+    elim ends [
+      | inl done ↦ subst (λ (x : Exit). CountsSource x before now) (sym done.0) is
+      | inr failed ↦ subst (λ (x : Exit). CountsSource x before now) (sym failed.0) (inr is)
+    ]
+
+pub calm_counted : (e : Exit) (before now : ℕ) → (e ≡ exits.ReadFault → ⊥) → now ≡ before → CountsSource e before now
+calm_counted exits.Done before now other is = is
+calm_counted exits.BadWords before now other is = is
+calm_counted exits.ReadFault before now other is = absurd (other refl)
+calm_counted exits.WriteFault before now other is = inl is
+calm_counted (exits.BadSchedule place) before now other is = is
+calm_counted exits.NoMemory before now other is = is
+calm_counted exits.TooLong before now other is = is
+
+pub calm_counted_by : (o : Option Exit) (before now : ℕ) → (o ≡ Some exits.ReadFault → ⊥) → now ≡ before → CountsSourceBy o before now
+calm_counted_by None before now other is = is
+calm_counted_by (Some e) before now other is = calm_counted e before now (λ r. other (ap Some r)) is
 
 pub not_read : exits.Done ≡ exits.ReadFault → ⊥
 not_read is = cc

@@ -31,17 +31,17 @@ pub record Follows {M D : Type 0} {gm : media.Ghosts M} {gd : disks.Ghosts D} (w
   pub extends : Extends old new entries
 
 -- a deframer of the target's side that has met no broken rule
-pub record IsSound (s : Stream) : Type 0 where
+pub record IsIntact (s : Stream) : Type 0 where
   pub side : s.side ≡ Target
   pub unbroken : s.broken ≡ None
 
 -- the next frame, with which a session goes on; after a broken rule the stream begins anew
-abbrev pub Goes : Front → Stream → Got → Stream → List ℕ → Type 0
-Goes (Short k) old (got.Need n) new buf = new ≡ old
-Goes (Broken r) old (got.Bad place reason) new buf = (place ≡ old.place) × (reason ≡ r) × (new ≡ record old { place = 0; held = []; broken = None })
-Goes (Whole f rest) old (got.Frame g) new buf =
+abbrev pub Receives : Front → Stream → Got → Stream → List ℕ → Type 0
+Receives (Short k) old (got.Need n) new buf = new ≡ old
+Receives (Broken r) old (got.Bad place reason) new buf = (place ≡ old.place) × (reason ≡ r) × (new ≡ record old { place = 0; held = []; broken = None })
+Receives (Whole f rest) old (got.Frame g) new buf =
     (f ≡ frame_of g (take g.body buf)) × (new ≡ record old { place = (old.place + frame_size f) % 2 ^ 64; held = rest }) × IsProper old.side g buf
-Goes _ old _ new buf = ⊥
+Receives _ old _ new buf = ⊥
 
 -- how many of these bytes a lane takes, where it holds so many at most; a dead one drops all
 abbrev pub fed_at : Phase → List ℕ → List ℕ → ℕ

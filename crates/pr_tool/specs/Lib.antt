@@ -4,6 +4,7 @@ pub mod Sessions
 pub mod Following
 pub mod Statuses
 pub mod Reading
+pub mod Counting
 pub mod Exits
 pub mod Asking
 pub mod Stops

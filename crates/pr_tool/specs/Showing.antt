@@ -2,7 +2,7 @@
 use Rattle.std.specs.Prelude.{◌≡◌, ℕ, ◌+◌, ◌%◌, ◌<◌, ◌≤◌, ◌^◌, ◌⊎◌, List, ◌++◌, length, take, vec_len, vec_capacity, Option, Some, None}
 use Rattle.std.specs.List.{flat_map}
 use Rattle.pr_io.specs.Streams.{Took, Put, PutSome}
-use Rattle.pr_io.specs.Causes.{Rose}
+use Rattle.pr_io.specs.Causes.{next_fault}
 use Rattle.pr_words.specs.declared.nexus.Side.TheVariants.{Target}
 use Rattle.pr_grammar.specs.Frames.{Frame, Short, Broken, Whole, front, frame_size}
 use Rattle.pr_grammar.specs.Shows.{AreFrames, Framed, HasBroken, JustBroken, size_of_all, line_of, text_of}
@@ -42,30 +42,30 @@ Shows _ ra rb wa wb = ⊥
 -- no more of a stream than so many bytes is looked at
 
 -- it ends there, or shows a frame that breaks a rule
-abbrev pub IsShort : ℕ → List ℕ → Type 0
-IsShort budget all = (length all ≤ budget) ⊎ HasBroken Target (take budget all)
+abbrev pub EndsWithin : ℕ → List ℕ → Type 0
+EndsWithin budget all = (length all ≤ budget) ⊎ HasBroken Target (take budget all)
 
 -- it goes on, and shows no such frame
-abbrev pub IsLong : ℕ → List ℕ → Type 0
-IsLong budget all = (budget < length all) × (HasBroken Target (take budget all) → ⊥)
+abbrev pub RunsOver : ℕ → List ℕ → Type 0
+RunsOver budget all = (budget < length all) × (HasBroken Target (take budget all) → ⊥)
 
 -- the cause of an exit that the stream alone brings, where the source tells it
-abbrev pub Causes : Exit → ℕ → Option (List ℕ) → Type 0
-Causes Done budget (Some all) = IsShort budget all
-Causes TooLong budget (Some all) = IsLong budget all
-Causes _ budget _ = Unit {0}
+abbrev pub ShowCauses : Exit → ℕ → Option (List ℕ) → Type 0
+ShowCauses Done budget (Some all) = EndsWithin budget all
+ShowCauses TooLong budget (Some all) = RunsOver budget all
+ShowCauses _ budget _ = Unit {0}
 
 -- the exits that come before what the stream alone brings
-abbrev pub IsEarlier : Exit → Type 0
-IsEarlier ReadFault = Unit {0}
-IsEarlier WriteFault = Unit {0}
-IsEarlier NoMemory = Unit {0}
-IsEarlier _ = ⊥
+abbrev pub PrecedesStream : Exit → Type 0
+PrecedesStream ReadFault = Unit {0}
+PrecedesStream WriteFault = Unit {0}
+PrecedesStream NoMemory = Unit {0}
+PrecedesStream _ = ⊥
 
 -- what the stream alone brings is the exit, but where an earlier one came
-abbrev pub Decides : Exit → ℕ → Option (List ℕ) → Type 0
-Decides exit budget None = Unit {0}
-Decides exit budget (Some all) = (IsShort budget all → IsEarlier exit ⊎ (exit ≡ Done)) × (IsLong budget all → IsEarlier exit ⊎ (exit ≡ TooLong))
+abbrev pub ShowDecides : Exit → ℕ → Option (List ℕ) → Type 0
+ShowDecides exit budget None = Unit {0}
+ShowDecides exit budget (Some all) = (EndsWithin budget all → PrecedesStream exit ⊎ (exit ≡ Done)) × (RunsOver budget all → PrecedesStream exit ⊎ (exit ≡ TooLong))
 
 -- a viewer that can go on: no rule is broken, and there is room for the next line
 pub record Ready (v : Viewer) : Type 0 where
@@ -92,8 +92,8 @@ pub record Going (budget : ℕ) (rest_old rest written_old written : Option (Lis
   pub bound : budget < 2 ^ 64
 
 -- the same of a viewer as it stands
-abbrev pub Goes : ℕ → Option (List ℕ) → Option (List ℕ) → Option (List ℕ) → Option (List ℕ) → Viewer → Type 0
-Goes budget ra rb wa wb v = Going budget ra rb wa wb (stream_of v.deframer) v.text.items v.frames v.left
+abbrev pub ViewerGoes : ℕ → Option (List ℕ) → Option (List ℕ) → Option (List ℕ) → Option (List ℕ) → Viewer → Type 0
+ViewerGoes budget ra rb wa wb v = Going budget ra rb wa wb (stream_of v.deframer) v.text.items v.frames v.left
 
 -- an exit of a run that has begun
 abbrev pub IsBegun : Exit → Type 0
@@ -101,17 +101,18 @@ IsBegun NoMemory = ⊥
 IsBegun _ = Unit {0}
 
 -- how a viewer stands where it has ended
-abbrev pub Stands : ℕ → Option (List ℕ) → Option (List ℕ) → Option (List ℕ) → Option (List ℕ) → Exit → Type 0
-Stands budget ra rb wa wb exit = Shows exit ra rb wa wb × Causes exit budget ra × IsBegun exit
+abbrev pub ViewerEnds : ℕ → Option (List ℕ) → Option (List ℕ) → Option (List ℕ) → Option (List ℕ) → Exit → Type 0
+ViewerEnds budget ra rb wa wb exit = Shows exit ra rb wa wb × ShowCauses exit budget ra × IsBegun exit
 
 -- a viewer goes on, or ends
 abbrev pub Steps : ℕ → Option (List ℕ) → Option (List ℕ) → Option (List ℕ) → Option (List ℕ) → Viewer → Option Exit → Type 0
-Steps budget ra rb wa wb v None = Goes budget ra rb wa wb v
-Steps budget ra rb wa wb v (Some exit) = Stands budget ra rb wa wb exit
+Steps budget ra rb wa wb v None = ViewerGoes budget ra rb wa wb v
+Steps budget ra rb wa wb v (Some exit) = ViewerEnds budget ra rb wa wb exit
 
 -- a text was put, and the exit is this one; or the sink failed
 abbrev pub EndsWith : Exit → Exit → Option (List ℕ) → Option (List ℕ) → List ℕ → ℕ → ℕ → Type 0
-EndsWith exit result wa wb text fa fb = ((result ≡ exit) × Put wa wb text) ⊎ ((result ≡ WriteFault) × PutSome wa wb text × Rose fa fb)
+EndsWith exit result wa wb text fa fb =
+    ((result ≡ exit) × Put wa wb text × (fb ≡ fa)) ⊎ ((result ≡ WriteFault) × PutSome wa wb text × (fb ≡ next_fault fa))
 
 -- what stands at the front of a target's stream once a piece has come, and the stream afterwards; a body stands in the buffer
 abbrev pub Finds : Stream → List ℕ → Got → Stream → List ℕ → Type 0

@@ -9,7 +9,8 @@ ghost use Rattle.pr_tool.specs.Rooms.{roomed};
 pub fn reply_head(kind: u8, lun: u16, tag: u32, text: [u8; 4], len: usize) -> [u8; 20]
     requires { len ≤ 524300 }
     ensures size { length result ≡ 20 }
-    ensures reply { (bytes : List ℕ) → length bytes ≡ len → result ++ bytes ≡ roomed (spelled (frame kind lun tag (text ++ bytes))) }
+    ensures reply { (bytes : List ℕ) → length bytes ≡ len →
+        result ++ bytes ≡ roomed (spelled (frame kind lun tag (text ++ bytes))) }
 {
     let size = (12 + len as u32).to_be_bytes();
     let unit = lun.to_be_bytes();
@@ -72,7 +73,8 @@ fn copy_both(work: &mut [u8], head: &[u8], tail: &[u8])
 /// Writes both over the first bytes of the buffer, one behind the other.
 pub fn write_both(work: &mut Vec<u8>, head: &[u8], tail: &[u8])
     requires { length head.now + length tail.now ≤ vec_len work.old }
-    ensures bytes { work.new.items ≡ head.now ++ tail.now ++ drop (length head.now + length tail.now) work.old.items }
+    ensures bytes { work.new.items ≡ head.now ++ tail.now
+        ++ drop (length head.now + length tail.now) work.old.items }
     ensures len { vec_len work.new ≡ vec_len work.old }
 {
     copy_both(work, head, tail);

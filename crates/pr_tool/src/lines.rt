@@ -89,7 +89,8 @@ fn push_field(text: &mut Vec<u8>, word: &[u8], number: u64)
 fn push_login(text: &mut Vec<u8>, tag: u32, body: &[u8])
     requires room { vec_len text.old + 128 ≤ vec_capacity text.old }
     requires body { is_login_body body.now ≡ true }
-    ensures items { text.new.items ≡ text.old.items ++ login_line tag (login_version body.now) (login_nexus body.now) }
+    ensures items { text.new.items ≡
+        text.old.items ++ login_line tag (login_version body.now) (login_nexus body.now) }
     ensures len { vec_len text.new ≤ vec_len text.old + 128 }
     ensures room { vec_capacity text.old ≤ vec_capacity text.new }
 {
@@ -105,7 +106,9 @@ fn push_login(text: &mut Vec<u8>, tag: u32, body: &[u8])
 fn push_command(text: &mut Vec<u8>, lun: u16, tag: u32, body: &[u8])
     requires room { vec_len text.old + 128 ≤ vec_capacity text.old }
     requires body { is_command_body body.now ≡ true }
-    ensures items { text.new.items ≡ text.old.items ++ command_line tag lun (operation_code (command_cdb body.now)) (length (command_data body.now)) }
+    ensures items { text.new.items ≡
+        text.old.items ++ command_line tag lun (operation_code (command_cdb body.now))
+        (length (command_data body.now)) }
     ensures len { vec_len text.new ≤ vec_len text.old + 128 }
     ensures room { vec_capacity text.old ≤ vec_capacity text.new }
 {
@@ -147,7 +150,8 @@ pub(crate) fn push_frame(text: &mut Vec<u8>, frame: &Frame, body: &[u8])
 /// Writes the last line of a stream that ends behind its frames.
 pub(crate) fn push_end(text: &mut Vec<u8>, frames: u64)
     requires { vec_len text.old + 128 ≤ vec_capacity text.old }
-    ensures items { text.new.items ≡ text.old.items ++ (codes "end frames=" ++ decimal frames ++ line_feed) }
+    ensures items { text.new.items ≡ text.old.items ++ (codes "end frames=" ++ decimal frames
+        ++ line_feed) }
 {
     push_field(text, b"end frames=", frames);
     push(text, b"\n");
@@ -156,7 +160,8 @@ pub(crate) fn push_end(text: &mut Vec<u8>, frames: u64)
 /// Writes the last line of a stream that ends inside a frame.
 pub(crate) fn push_cut(text: &mut Vec<u8>, place: u64)
     requires { vec_len text.old + 128 ≤ vec_capacity text.old }
-    ensures items { text.new.items ≡ text.old.items ++ (codes "cut place=" ++ decimal place ++ line_feed) }
+    ensures items { text.new.items ≡ text.old.items ++ (codes "cut place=" ++ decimal place
+        ++ line_feed) }
 {
     push_field(text, b"cut place=", place);
     push(text, b"\n");
@@ -165,7 +170,8 @@ pub(crate) fn push_cut(text: &mut Vec<u8>, place: u64)
 /// Writes the last line of a stream in which a frame breaks a rule.
 pub(crate) fn push_bad(text: &mut Vec<u8>, place: u64, reason: u8)
     requires { vec_len text.old + 128 ≤ vec_capacity text.old }
-    ensures items { text.new.items ≡ text.old.items ++ (codes "bad place=" ++ decimal place ++ codes " reason=" ++ decimal reason ++ line_feed) }
+    ensures items { text.new.items ≡ text.old.items ++ (codes "bad place=" ++ decimal place
+        ++ codes " reason=" ++ decimal reason ++ line_feed) }
 {
     push_field(text, b"bad place=", place);
     push_field(text, b" reason=", u64::from(reason));

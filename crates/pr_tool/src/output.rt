@@ -15,7 +15,8 @@ const MOST: usize = 65_535;
 fn record_head(lane: u8, len: usize) -> [u8; 4]
     requires { len ≤ 65535 }
     ensures size { length result ≡ 4 }
-    ensures text { (bytes : List ℕ) → length bytes ≡ len → result ++ bytes ≡ output_record lane bytes }
+    ensures text { (bytes : List ℕ) → length bytes ≡ len →
+        result ++ bytes ≡ output_record lane bytes }
 {
     let size = (len as u16).to_be_bytes();
     [lane, 0, size[0], size[1]]
@@ -24,8 +25,10 @@ fn record_head(lane: u8, len: usize) -> [u8; 4]
 /// Writes one record.
 fn put_record<K: Sink>(sink: &mut K, lane: u8, piece: &[u8]) -> Result<(), Failed>
     requires { length piece.now ≤ 65535 }
-    ensures all { OnOk result (Put (K.written sink.old) (K.written sink.new) (output_record lane piece.now)) }
-    ensures some { OnErr result (PutSome (K.written sink.old) (K.written sink.new) (output_record lane piece.now)) }
+    ensures all { OnOk result (Put (K.written sink.old) (K.written sink.new)
+        (output_record lane piece.now)) }
+    ensures some { OnErr result (PutSome (K.written sink.old) (K.written sink.new)
+        (output_record lane piece.now)) }
     ensures cause { HasCause (K.faults sink.old) (K.faults sink.new) result }
 {
     put_two(sink, &record_head(lane, piece.len()), piece)
@@ -33,8 +36,10 @@ fn put_record<K: Sink>(sink: &mut K, lane: u8, piece: &[u8]) -> Result<(), Faile
 
 /// Writes bytes in as many records as they need.
 fn put_records<K: Sink>(sink: &mut K, lane: u8, bytes: &[u8]) -> Result<(), Failed>
-    ensures all { OnOk result (Put (K.written sink.old) (K.written sink.new) (output_of lane bytes.now)) }
-    ensures some { OnErr result (PutSome (K.written sink.old) (K.written sink.new) (output_of lane bytes.now)) }
+    ensures all { OnOk result (Put (K.written sink.old) (K.written sink.new)
+        (output_of lane bytes.now)) }
+    ensures some { OnErr result (PutSome (K.written sink.old) (K.written sink.new)
+        (output_of lane bytes.now)) }
     ensures cause { HasCause (K.faults sink.old) (K.faults sink.new) result }
 {
     let mut at = 0;
@@ -50,9 +55,12 @@ fn put_records<K: Sink>(sink: &mut K, lane: u8, bytes: &[u8]) -> Result<(), Fail
 /// record has room for it.
 fn put_reply<K: Sink>(sink: &mut K, lane: u8, work: &[u8], len: usize) -> Result<(), Failed>
     requires room { 4 + len ≤ length work.now }
-    requires head { (bytes : List ℕ) → length bytes ≡ len → len ≤ 65535 → take 4 work.now ++ bytes ≡ output_record lane bytes }
-    ensures all { OnOk result (Put (K.written sink.old) (K.written sink.new) (output_of lane (take len (drop 4 work.now)))) }
-    ensures some { OnErr result (PutSome (K.written sink.old) (K.written sink.new) (output_of lane (take len (drop 4 work.now)))) }
+    requires head { (bytes : List ℕ) → length bytes ≡ len → len ≤ 65535 →
+        take 4 work.now ++ bytes ≡ output_record lane bytes }
+    ensures all { OnOk result (Put (K.written sink.old) (K.written sink.new)
+        (output_of lane (take len (drop 4 work.now)))) }
+    ensures some { OnErr result (PutSome (K.written sink.old) (K.written sink.new)
+        (output_of lane (take len (drop 4 work.now)))) }
     ensures cause { HasCause (K.faults sink.old) (K.faults sink.new) result }
 {
     if len == 0 {
@@ -72,8 +80,10 @@ pub fn write_output<K: Sink>(
     len: usize,
 ) -> Result<(), Failed>
     requires { 4 + len ≤ vec_len work.old }
-    ensures all { OnOk result (Put (K.written sink.old) (K.written sink.new) (output_of lane (take len (drop 4 work.old.items)))) }
-    ensures some { OnErr result (PutSome (K.written sink.old) (K.written sink.new) (output_of lane (take len (drop 4 work.old.items)))) }
+    ensures all { OnOk result (Put (K.written sink.old) (K.written sink.new)
+        (output_of lane (take len (drop 4 work.old.items)))) }
+    ensures some { OnErr result (PutSome (K.written sink.old) (K.written sink.new)
+        (output_of lane (take len (drop 4 work.old.items)))) }
     ensures cause { HasCause (K.faults sink.old) (K.faults sink.new) result }
     ensures len { vec_len work.new ≡ vec_len work.old }
 {

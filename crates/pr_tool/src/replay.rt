@@ -1,16 +1,18 @@
-ghost use Rattle.std.specs.Prelude.{◌≡◌, ◌+◌, ◌-◌, ◌≤◌, ◌<◌, ◌^◌, ◌↔◌, [], ℕ, List, replicate, length, vec_len, IfOk, OnOk, OnErr, Err};
-ghost use Rattle.pr_io.specs.Causes.{HasCause, Rose};
+ghost use Rattle.std.specs.Prelude.{◌≡◌, ◌+◌, ◌-◌, ◌≤◌, ◌<◌, ◌^◌, ◌↔◌, ◌⊎◌, ℕ, List, replicate, length, vec_len, IfOk, OnOk, OnErr};
+ghost use Rattle.pr_io.specs.Causes.{HasCause};
+ghost use Rattle.pr_io.specs.Told.{told_sink, told_streams, told};
 ghost use Rattle.pr_grammar.specs.Schedules as schedules;
 ghost use Rattle.pr_model.specs.Limits.{HELD};
 ghost use Rattle.pr_model.specs.Keeping.{Nothing};
 ghost use Rattle.pr_model.specs.Worlds.{Blocks, opened};
 ghost use Rattle.pr_model.specs.Lanes.{Lane, Dead, fresh};
-ghost use Rattle.pr_model.specs.Runs.{TakesTurn, RunsRecord, BeginsRecord, ActsOn};
+ghost use Rattle.pr_model.specs.Runs.{TakesTurn, CutsTurn, RunsRecord, CutsRecord, ActsOn};
 ghost use Rattle.pr_core.specs.View.{StandsFor, blocks_of, KeepsOthers};
 ghost use Rattle.pr_tool.specs.Reading.{record_of, IsHeld, Reads};
 ghost use Rattle.pr_tool.specs.Sessions.{lane_of, lanes_of};
 ghost use Rattle.pr_tool.specs.Following.{Agrees, AllAgree, fed};
-ghost use Rattle.pr_tool.specs.Exits.{Ran, Stands, Causes, Decides};
+ghost use Rattle.pr_tool.specs.Counting.{faults_read};
+ghost use Rattle.pr_tool.specs.Exits.{Ran, RunEnds, Stands, Causes, Decides};
 ghost use Rattle.pr_tool.specs.Stops.{exit_of, Does};
 ghost use Rattle.pr_tool.specs.Asking.{AsksReplay};
 
@@ -18,7 +20,7 @@ use crate::asking::lanes_asked;
 use crate::exit::Exit;
 use crate::schedule::{End, Record, read_record};
 use crate::session::Session;
-use pr_core::Core;
+use pr_core::{Core, Room};
 use pr_io::{Disk, Failed, Medium, Sink, Source};
 use std::alloc::{AllocError, Global};
 
@@ -36,11 +38,16 @@ fn step<K: Sink, M: Medium, D: Disk>(
     who: u8,
 ) -> Result<(), Failed>
     requires { Agrees (lane_of lane.old).phase who core.old }
-    ensures all { OnOk result (Ran (TakesTurn who) (K.written sink.old) (K.written sink.new) core.old (lane_of lane.old) core.new (lane_of lane.new) []) }
-    ensures some { OnErr result ((lost : List ℕ) × Ran (TakesTurn who) (K.written sink.old) (K.written sink.new) core.old (lane_of lane.old) core.new (lane_of lane.new) lost) }
+    ensures all { OnOk result (Ran (TakesTurn who) (told_sink K.Sink sink.old)
+        (told_sink K.Sink sink.new)
+        core.old (lane_of lane.old) core.new (lane_of lane.new)) }
+    ensures some { OnErr result (Ran (CutsTurn who) (told_sink K.Sink sink.old)
+        (told_sink K.Sink sink.new)
+        core.old (lane_of lane.old) core.new (lane_of lane.new)) }
     ensures agrees { Agrees (lane_of lane.new).phase who core.new }
     ensures others { KeepsOthers who core.old core.new }
-    ensures room { length (lane_of lane.old).bytes ≡ HELD → ((lane_of lane.old).phase ≡ Dead → ⊥) → (more : List ℕ) → 0 < length more → 0 < fed (lane_of lane.new) more }
+    ensures room { length (lane_of lane.old).bytes ≡ HELD → ((lane_of lane.old).phase ≡ Dead → ⊥) →
+        (more : List ℕ) → 0 < length more → 0 < fed (lane_of lane.new) more }
     ensures cause { HasCause (K.faults sink.old) (K.faults sink.new) result }
 {
     lane.turn(core, who as u64);
@@ -56,8 +63,12 @@ fn arrive<K: Sink, M: Medium, D: Disk>(
     bytes: &[u8],
 ) -> Result<(), Failed>
     requires { Agrees (lane_of lane.old).phase who core.old }
-    ensures all { OnOk result (Ran (RunsRecord (schedules.Arrival who bytes.now)) (K.written sink.old) (K.written sink.new) core.old (lane_of lane.old) core.new (lane_of lane.new) []) }
-    ensures some { OnErr result ((m : Lane) × (lost : List ℕ) × Ran (BeginsRecord (schedules.Arrival who bytes.now)) (K.written sink.old) (K.written sink.new) core.old (lane_of lane.old) core.new m lost) }
+    ensures all { OnOk result (Ran (RunsRecord (schedules.Arrival who bytes.now))
+        (told_sink K.Sink sink.old) (told_sink K.Sink sink.new)
+        core.old (lane_of lane.old) core.new (lane_of lane.new)) }
+    ensures some { OnErr result ((m : Lane) × Ran (CutsRecord (schedules.Arrival who bytes.now))
+        (told_sink K.Sink sink.old) (told_sink K.Sink sink.new) core.old
+        (lane_of lane.old) core.new m) }
     ensures agrees { Agrees (lane_of lane.new).phase who core.new }
     ensures others { KeepsOthers who core.old core.new }
     ensures cause { HasCause (K.faults sink.old) (K.faults sink.new) result }
@@ -78,12 +89,18 @@ fn act<K: Sink, M: Medium, D: Disk>(
     found: Record,
     body: &[u8],
 ) -> Result<(), Failed>
-    requires agrees { Agrees (lane_of lane.old).phase (schedules.lane_of (record_of found body.now)) core.old }
+    requires agrees { Agrees (lane_of lane.old).phase
+        (schedules.lane_of (record_of found body.now)) core.old }
     requires held { IsHeld found }
     requires room { 65535 ≤ length body.now }
-    ensures all { OnOk result (Ran (RunsRecord (record_of found body.now)) (K.written sink.old) (K.written sink.new) core.old (lane_of lane.old) core.new (lane_of lane.new) []) }
-    ensures some { OnErr result ((m : Lane) × (lost : List ℕ) × Ran (BeginsRecord (record_of found body.now)) (K.written sink.old) (K.written sink.new) core.old (lane_of lane.old) core.new m lost) }
-    ensures agrees { Agrees (lane_of lane.new).phase (schedules.lane_of (record_of found body.now)) core.new }
+    ensures all { OnOk result (Ran (RunsRecord (record_of found body.now))
+        (told_sink K.Sink sink.old) (told_sink K.Sink sink.new)
+        core.old (lane_of lane.old) core.new (lane_of lane.new)) }
+    ensures some { OnErr result ((m : Lane) × Ran (CutsRecord (record_of found body.now))
+        (told_sink K.Sink sink.old) (told_sink K.Sink sink.new) core.old
+        (lane_of lane.old) core.new m) }
+    ensures agrees { Agrees (lane_of lane.new).phase
+        (schedules.lane_of (record_of found body.now)) core.new }
     ensures others { KeepsOthers (schedules.lane_of (record_of found body.now)) core.old core.new }
     ensures cause { HasCause (K.faults sink.old) (K.faults sink.new) result }
 {
@@ -109,8 +126,13 @@ fn act_on<K: Sink, M: Medium, D: Disk>(
     requires held { IsHeld found }
     requires room { 65535 ≤ length body.now }
     requires valid { schedules.IsRecord (length lanes.old) (record_of found body.now) }
-    ensures all { OnOk result (Ran (ActsOn RunsRecord (record_of found body.now)) (K.written sink.old) (K.written sink.new) core.old (lanes_of lanes.old) core.new (lanes_of lanes.new) []) }
-    ensures some { OnErr result ((last : List Lane) × (lost : List ℕ) × Ran (ActsOn BeginsRecord (record_of found body.now)) (K.written sink.old) (K.written sink.new) core.old (lanes_of lanes.old) core.new last lost) }
+    ensures all { OnOk result (Ran (ActsOn RunsRecord (record_of found body.now))
+        (told_sink K.Sink sink.old) (told_sink K.Sink sink.new)
+        core.old (lanes_of lanes.old) core.new (lanes_of lanes.new)) }
+    ensures some { OnErr result ((last : List Lane)
+        × Ran (ActsOn CutsRecord (record_of found body.now))
+        (told_sink K.Sink sink.old) (told_sink K.Sink sink.new) core.old
+        (lanes_of lanes.old) core.new last) }
     ensures agree { AllAgree (lanes_of lanes.new) core.new }
     ensures count { length lanes.new ≡ length lanes.old }
     ensures cause { HasCause (K.faults sink.old) (K.faults sink.new) result }
@@ -151,8 +173,7 @@ fn read_into<S: Source>(
     requires { vec_len body.old ≡ 65535 }
     ensures reads { Reads lanes left result (S.rest source.old) (S.rest source.new) body.new.items }
     ensures room { vec_len body.new ≡ 65535 }
-    ensures later { S.faults source.old ≤ S.faults source.new }
-    ensures fault { result ≡ Err End.ReadFault → Rose (S.faults source.old) (S.faults source.new) }
+    ensures faults { S.faults source.new ≡ faults_read result (S.faults source.old) }
 {
     read_record(source, lanes, left, body)
 }
@@ -160,7 +181,8 @@ fn read_into<S: Source>(
 /// How many bytes of a schedule a record takes.
 fn size_of(found: Record) -> u64
     requires { IsHeld found }
-    ensures size { (body : List ℕ) → 65535 ≤ length body → result ≡ length (schedules.spelled_record (record_of found body)) }
+    ensures size { (body : List ℕ) → 65535 ≤ length body →
+        result ≡ length (schedules.spelled_record (record_of found body)) }
     ensures some { 4 ≤ result }
 {
     match found {
@@ -182,14 +204,13 @@ fn run_one<S: Source, K: Sink, M: Medium, D: Disk>(
     requires agree { AllAgree (lanes_of lanes.old) core.old }
     requires most { length lanes.old ≤ 64 }
     requires room { vec_len body.old ≡ 65535 }
-    ensures does { Does (length lanes.old) left result (S.rest source.old) (S.rest source.new) (K.written sink.old) (K.written sink.new) core.old (lanes_of lanes.old) core.new (lanes_of lanes.new) }
+    ensures does { Does (length lanes.old) left result
+        (told_streams S.Source K.Sink source.old sink.old)
+        (told_streams S.Source K.Sink source.new sink.new)
+        core.old (lanes_of lanes.old) core.new (lanes_of lanes.new) }
     ensures agree { AllAgree (lanes_of lanes.new) core.new }
     ensures count { length lanes.new ≡ length lanes.old }
     ensures room { vec_len body.new ≡ 65535 }
-    ensures read { result ≡ Err (Stop.Read End.ReadFault) → Rose (S.faults source.old) (S.faults source.new) }
-    ensures write { result ≡ Err Stop.Write → Rose (K.faults sink.old) (K.faults sink.new) }
-    ensures read_later { S.faults source.old ≤ S.faults source.new }
-    ensures write_later { K.faults sink.old ≤ K.faults sink.new }
 {
     let found = match read_into(source, lanes.len() as u8, left, body) {
         Ok(found) => found,
@@ -210,15 +231,15 @@ fn run<S: Source, K: Sink, M: Medium, D: Disk>(
     body: &mut Vec<u8>,
     budget: u64,
 ) -> Exit
-    requires opening { (m : Blocks) → m.count ≡ blocks_of core.old → StandsFor core.old (opened m Nothing) }
+    requires opening { (m : Blocks) → m.count ≡ blocks_of core.old →
+        StandsFor core.old (opened m Nothing) }
     requires fresh { lanes_of lanes.old ≡ replicate (length lanes.old) fresh }
     requires most { length lanes.old ≤ 64 }
     requires room { vec_len body.old ≡ 65535 }
-    ensures stands { Stands (length lanes.old) result (blocks_of core.old) (S.rest source.old) (S.rest source.new) (K.written sink.old) (K.written sink.new) }
+    ensures ends { RunEnds (length lanes.old) budget (blocks_of core.old) result
+        (told_streams S.Source K.Sink source.old sink.old)
+        (told_streams S.Source K.Sink source.new sink.new) }
     ensures causes { Causes (length lanes.old) result budget (S.rest source.old) }
-    ensures begun { result ≡ Exit.BadWords → ⊥ }
-    ensures read { result ≡ Exit.ReadFault → Rose (S.faults source.old) (S.faults source.new) }
-    ensures write { result ≡ Exit.WriteFault → Rose (K.faults sink.old) (K.faults sink.new) }
 {
     let mut left = budget;
     'records: loop {
@@ -259,15 +280,17 @@ pub fn replay_within<S: Source, K: Sink, M: Medium, D: Disk>(
     requires { (1 ≤ lanes) × (lanes ≤ 64) }
 
     // The headline, for the commands that there are: one legal history whose run over the records
-    // read gives the bytes written.
-    ensures stands { Stands lanes result (M.count medium.old) (S.rest source.old) (S.rest source.new) (K.written sink.old) (K.written sink.new) }
+    // read gives the bytes written. Which stream failed, and that no fault is passed over.
+    ensures stands { Stands lanes budget result
+        (told S.Source K.Sink M.Medium D.Disk source.old sink.old medium.old disk.old)
+        (told S.Source K.Sink M.Medium D.Disk source.new sink.new medium.new disk.new) }
 
     // The causes of the exits, and that what the schedule alone brings is the exit.
     ensures causes { Causes lanes result budget (S.rest source.old) }
     ensures decides { Decides lanes result budget (S.rest source.old) }
     ensures begun { result ≡ Exit.BadWords → ⊥ }
-    ensures read { result ≡ Exit.ReadFault → Rose (S.faults source.old) (S.faults source.new) }
-    ensures write { result ≡ Exit.WriteFault → Rose (K.faults sink.old) (K.faults sink.new) }
+    ensures untouched { result ≡ Exit.NoMemory → (source.new ≡ source.old) × (sink.new ≡ sink.old)
+        × (medium.new ≡ medium.old) × (disk.new ≡ disk.old) }
 {
     let Ok(mut sessions) = fresh_lanes(alloc, lanes) else {
         return Exit::NoMemory;
@@ -275,9 +298,10 @@ pub fn replay_within<S: Source, K: Sink, M: Medium, D: Disk>(
     let Ok(mut body) = vec![in alloc; 0u8; ARRIVAL] else {
         return Exit::NoMemory;
     };
-    let Ok(mut core) = Core::open(alloc, medium, disk) else {
+    let Ok(room) = Room::new(alloc) else {
         return Exit::NoMemory;
     };
+    let mut core = Core::open_in(room, medium, disk);
     run(source, sink, &mut core, &mut sessions, &mut body, budget)
 }
 
@@ -304,12 +328,16 @@ pub fn replay_main<S: Source, K: Sink, M: Medium, D: Disk>(
     disk: &mut D,
 ) -> Exit
     ensures words { result ≡ Exit.BadWords ↔ (¬ ((lanes : ℕ) × AsksReplay words.now lanes)) }
-    ensures stands { (lanes : ℕ) → AsksReplay words.now lanes → Stands lanes result (M.count medium.old) (S.rest source.old) (S.rest source.new) (K.written sink.old) (K.written sink.new) }
-    ensures causes { (lanes : ℕ) → AsksReplay words.now lanes → Causes lanes result (2 ^ 32) (S.rest source.old) }
-    ensures decides { (lanes : ℕ) → AsksReplay words.now lanes → Decides lanes result (2 ^ 32) (S.rest source.old) }
-    ensures read { result ≡ Exit.ReadFault → Rose (S.faults source.old) (S.faults source.new) }
-    ensures write { result ≡ Exit.WriteFault → Rose (K.faults sink.old) (K.faults sink.new) }
-    ensures untouched { result ≡ Exit.BadWords → (source.new ≡ source.old) × (sink.new ≡ sink.old) × (medium.new ≡ medium.old) × (disk.new ≡ disk.old) }
+    ensures stands { (lanes : ℕ) → AsksReplay words.now lanes → Stands lanes (2 ^ 32) result
+        (told S.Source K.Sink M.Medium D.Disk source.old sink.old medium.old disk.old)
+        (told S.Source K.Sink M.Medium D.Disk source.new sink.new medium.new disk.new) }
+    ensures causes { (lanes : ℕ) → AsksReplay words.now lanes →
+        Causes lanes result (2 ^ 32) (S.rest source.old) }
+    ensures decides { (lanes : ℕ) → AsksReplay words.now lanes →
+        Decides lanes result (2 ^ 32) (S.rest source.old) }
+    ensures untouched { (result ≡ Exit.BadWords) ⊎ (result ≡ Exit.NoMemory) →
+        (source.new ≡ source.old) × (sink.new ≡ sink.old)
+        × (medium.new ≡ medium.old) × (disk.new ≡ disk.old) }
 {
     match lanes_asked(words) {
         Some(lanes) => replay_within(alloc, lanes, BUDGET, source, sink, medium, disk),

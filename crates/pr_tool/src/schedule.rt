@@ -1,7 +1,7 @@
-ghost use Rattle.std.specs.Prelude.{◌≡◌, ◌≤◌, ◌<◌, ℕ, List, true, Err, length, slice_index, IfOk, IfErr, OnOk};
+ghost use Rattle.std.specs.Prelude.{◌≡◌, ◌≤◌, ◌<◌, ℕ, List, true, length, slice_index, IfOk, IfErr, OnOk};
 ghost use Rattle.pr_io.specs.Streams.{Took};
-ghost use Rattle.pr_io.specs.Causes.{Rose};
 ghost use Rattle.pr_grammar.specs.Schedules as schedules;
+ghost use Rattle.pr_tool.specs.Counting.{faults_at, faults_read};
 ghost use Rattle.pr_tool.specs.Reading.{record_of, Reads, Stops, Cuts, Ends, end_at};
 
 use pr_io::{Source, read_up_to};
@@ -70,8 +70,7 @@ fn can_begin(lanes: u8, bytes: &[u8]) -> bool
 /// Takes one byte more, to see whether the source has ended where no more is looked at.
 fn look_behind<S: Source>(source: &mut S, begun: bool) -> End
     ensures ends { Ends begun result (S.rest source.old) (S.rest source.new) }
-    ensures later { S.faults source.old ≤ S.faults source.new }
-    ensures fault { result ≡ End.ReadFault → Rose (S.faults source.old) (S.faults source.new) }
+    ensures faults { S.faults source.new ≡ faults_at result (S.faults source.old) }
 {
     match source.take(&mut [0]) {
         Ok(0) => End::at(begun),
@@ -85,9 +84,9 @@ fn read_head<S: Source>(source: &mut S, lanes: u8, left: u64) -> Result<[u8; 4],
     ensures took { IfOk result (λ head. Took (S.rest source.old) (S.rest source.new) head) }
     ensures begins { IfOk result (λ head. schedules.can_begin lanes head ≡ true) }
     ensures room { OnOk result (4 ≤ left) }
-    ensures stops { IfErr result (λ end. Stops lanes left end (S.rest source.old) (S.rest source.new)) }
-    ensures later { S.faults source.old ≤ S.faults source.new }
-    ensures fault { result ≡ Err End.ReadFault → Rose (S.faults source.old) (S.faults source.new) }
+    ensures stops { IfErr result (λ end. Stops lanes left end (S.rest source.old)
+        (S.rest source.new)) }
+    ensures faults { S.faults source.new ≡ faults_read result (S.faults source.old) }
 {
     let mut head = [0; 4];
     let room = left.min(4) as usize;
@@ -111,9 +110,9 @@ fn read_body<S: Source>(source: &mut S, left: u64, body: &mut [u8]) -> Result<()
     requires { length body.old < 65536 }
     ensures took { OnOk result (Took (S.rest source.old) (S.rest source.new) body.new) }
     ensures room { OnOk result (length body.old ≤ left) }
-    ensures cuts { IfErr result (λ end. Cuts (length body.old) left end (S.rest source.old) (S.rest source.new)) }
-    ensures later { S.faults source.old ≤ S.faults source.new }
-    ensures fault { result ≡ Err End.ReadFault → Rose (S.faults source.old) (S.faults source.new) }
+    ensures cuts { IfErr result (λ end. Cuts (length body.old) left end (S.rest source.old)
+        (S.rest source.new)) }
+    ensures faults { S.faults source.new ≡ faults_read result (S.faults source.old) }
 {
     let room = left.min(body.len() as u64) as usize;
     let Ok(got) = read_up_to(source, &mut body[..room]) else {
@@ -145,8 +144,7 @@ pub(crate) fn read_record<S: Source>(
 ) -> Result<Record, End>
     requires { 65535 ≤ length body.old }
     ensures reads { Reads lanes left result (S.rest source.old) (S.rest source.new) body.new }
-    ensures later { S.faults source.old ≤ S.faults source.new }
-    ensures fault { result ≡ Err End.ReadFault → Rose (S.faults source.old) (S.faults source.new) }
+    ensures faults { S.faults source.new ≡ faults_read result (S.faults source.old) }
 {
     let head = read_head(source, lanes, left)?;
     let lane = head[0];

@@ -18,7 +18,7 @@ ghost use Rattle.pr_link.specs.Streams as streams;
 ghost use Rattle.pr_link.specs.Deframer.{stream_of, held_of};
 ghost use Rattle.pr_tool.specs.Rooms.{answer_body};
 ghost use Rattle.pr_tool.specs.Phases.{phase_of, IsAlive};
-ghost use Rattle.pr_tool.specs.Following.{Agrees, Follows, IsSound, Goes, fed};
+ghost use Rattle.pr_tool.specs.Following.{Agrees, Follows, IsIntact, Receives, fed};
 
 use crate::heads::{empty_head, reject_head, reply_head, write_both, write_front};
 use crate::output::write_output;
@@ -52,7 +52,7 @@ pub struct Session {
     reply: usize,
     ghost room: { vec_len work ≡ 524320 },
     ghost within: { reply ≤ 524316 },
-    ghost sound: { IsSound (stream_of deframer) },
+    ghost sound: { IsIntact (stream_of deframer) },
 }
 
 impl Session {
@@ -88,6 +88,7 @@ impl Session {
         requires { Agrees (lane_of self.old).phase who core.old }
         ensures entries { Extends core.old core.new (closing who (lane_of self.old).phase) }
         ensures lane { lane_of self.new ≡ fresh }
+        ensures reply { reply_of self.new ≡ [] }
         ensures others { KeepsOthers who core.old core.new }
     {
         if let Phase::In(nexus) = self.phase {
@@ -127,8 +128,10 @@ impl Session {
 
     /// Writes the reply that waits, as the output of a lane.
     pub fn write_reply<K: Sink>(&mut self, sink: &mut K, lane: u8) -> Result<(), Failed>
-        ensures all { OnOk result (Put (K.written sink.old) (K.written sink.new) (output_of lane (reply_of self.old))) }
-        ensures some { OnErr result (PutSome (K.written sink.old) (K.written sink.new) (output_of lane (reply_of self.old))) }
+        ensures all { OnOk result (Put (K.written sink.old) (K.written sink.new)
+            (output_of lane (reply_of self.old))) }
+        ensures some { OnErr result (PutSome (K.written sink.old) (K.written sink.new)
+            (output_of lane (reply_of self.old))) }
         ensures cause { HasCause (K.faults sink.old) (K.faults sink.new) result }
         ensures lane { lane_of self.new ≡ lane_of self.old }
     {
@@ -138,7 +141,8 @@ impl Session {
     /// One turn, whose reply then waits.
     pub fn turn<M: Medium, D: Disk>(&mut self, core: &mut Core<M, D>, who: u64)
         requires { Agrees (lane_of self.old).phase who core.old }
-        ensures follows { Follows who core.old (lane_of self.old) (turn (lane_of self.old)) core.new (lane_of self.new) (reply_of self.new) }
+        ensures follows { Follows who core.old (lane_of self.old)
+            (turn (lane_of self.old)) core.new (lane_of self.new) (reply_of self.new) }
         ensures agrees { Agrees (lane_of self.new).phase who core.new }
         ensures others { KeepsOthers who core.old core.new }
     {
@@ -164,7 +168,9 @@ impl Session {
     )
         requires agrees { Agrees (phase_of self.old.phase) who core.old }
         requires alive { IsAlive self.old.phase }
-        ensures follows { (l : Lane) → Follows who core.old l (broken (phase_of self.old.phase) place reason) core.new (lane_of self.new) (reply_of self.new) }
+        ensures follows { (l : Lane) →
+            Follows who core.old l (broken (phase_of self.old.phase) place reason) core.new
+            (lane_of self.new) (reply_of self.new) }
         ensures agrees { Agrees (lane_of self.new).phase who core.new }
         ensures others { KeepsOthers who core.old core.new }
     {
@@ -200,9 +206,11 @@ impl Session {
         requires agrees { Agrees (phase_of self.old.phase) who core.old }
         requires alive { IsAlive self.old.phase }
         requires proper { streams.IsProper Target head self.old.work.items }
-        requires placed { (lane_of self.old).place ≡ place_after place (streams.frame_of head (take head.body self.old.work.items)) }
+        requires placed { (lane_of self.old).place ≡
+            place_after place (streams.frame_of head (take head.body self.old.work.items)) }
         ensures follows { (l : Lane) → Follows who core.old l
-            (asked (phase_of self.old.phase) place (streams.frame_of head (take head.body self.old.work.items)) (lane_of self.old).bytes)
+            (asked (phase_of self.old.phase) place
+            (streams.frame_of head (take head.body self.old.work.items)) (lane_of self.old).bytes)
             core.new (lane_of self.new) (reply_of self.new) }
         ensures agrees { Agrees (lane_of self.new).phase who core.new }
         ensures others { KeepsOthers who core.old core.new }
@@ -254,8 +262,10 @@ impl Session {
         requires logged_in { phase_of self.old.phase ≡ lanes.In nexus }
         requires body { is_command_body (take head.body self.old.work.items) ≡ true }
         requires bound { head.body ≤ 524308 }
-        ensures follows { (l : Lane) (f : frames.Frame) → f ≡ streams.frame_of head (take head.body self.old.work.items) → Follows who core.old l
-            (Asks nexus (Command f.lun (command_cdb f.body) (command_data f.body)) (after_command nexus f (lane_of self.old).bytes (lane_of self.old).place))
+        ensures follows { (l : Lane) (f : frames.Frame) →
+            f ≡ streams.frame_of head (take head.body self.old.work.items) → Follows who core.old l
+            (Asks nexus (Command f.lun (command_cdb f.body) (command_data f.body))
+            (after_command nexus f (lane_of self.old).bytes (lane_of self.old).place))
             core.new (lane_of self.new) (reply_of self.new) }
         ensures agrees { Agrees (lane_of self.new).phase who core.new }
         ensures others { KeepsOthers who core.old core.new }
@@ -267,8 +277,10 @@ impl Session {
     /// A Login.
     fn log_in<M: Medium, D: Disk>(&mut self, core: &mut Core<M, D>, who: u64, head: Frame)
         requires body { head.body ≡ 12 }
-        ensures follows { (l : Lane) (f : frames.Frame) → f ≡ streams.frame_of head (take head.body self.old.work.items) → Follows who core.old l
-            (Asks (login_nexus f.body) (Login (login_version f.body)) (after_login f (lane_of self.old).bytes (lane_of self.old).place))
+        ensures follows { (l : Lane) (f : frames.Frame) →
+            f ≡ streams.frame_of head (take head.body self.old.work.items) → Follows who core.old l
+            (Asks (login_nexus f.body) (Login (login_version f.body))
+            (after_login f (lane_of self.old).bytes (lane_of self.old).place))
             core.new (lane_of self.new) (reply_of self.new) }
         ensures agrees { Agrees (lane_of self.new).phase who core.new }
         ensures others { KeepsOthers who core.old core.new }
@@ -285,10 +297,11 @@ impl Session {
 /// The next frame with its body in the buffer. After a broken rule the stream begins anew.
 fn next_into(deframer: &mut Deframer, work: &mut Vec<u8>) -> Got
     requires room { vec_len work.old ≡ 524320 }
-    requires sound { IsSound (stream_of deframer.old) }
-    ensures goes { Goes (front Target (held_of deframer.old)) (stream_of deframer.old) result (stream_of deframer.new) work.new.items }
+    requires sound { IsIntact (stream_of deframer.old) }
+    ensures goes { Receives (front Target (held_of deframer.old)) (stream_of deframer.old) result
+        (stream_of deframer.new) work.new.items }
     ensures room { vec_len work.new ≡ 524320 }
-    ensures sound { IsSound (stream_of deframer.new) }
+    ensures sound { IsIntact (stream_of deframer.new) }
 {
     let got = deframer.next(work);
     if let Got::Bad { .. } = got {
@@ -334,7 +347,8 @@ fn command_on<M: Medium, D: Disk>(
     requires body { is_command_body (take head.body work.old) ≡ true }
     requires bound { head.body ≤ 524308 }
     ensures entry { Extends core.old core.new (entry who nexus
-        (Command head.lun (command_cdb (take head.body work.old)) (command_data (take head.body work.old)))
+        (Command head.lun (command_cdb (take head.body work.old))
+        (command_data (take head.body work.old)))
         (out_of result (drop 20 work.new)) ∷ []) }
     ensures owner { owner_of core.new ≡ owner_of core.old }
     ensures proper { IsProper result }
@@ -357,7 +371,8 @@ fn command_in<M: Medium, D: Disk>(
     requires body { is_command_body (take head.body work.old.items) ≡ true }
     requires bound { head.body ≤ 524308 }
     ensures entry { Extends core.old core.new (entry who nexus
-        (Command head.lun (command_cdb (take head.body work.old.items)) (command_data (take head.body work.old.items)))
+        (Command head.lun (command_cdb (take head.body work.old.items))
+        (command_data (take head.body work.old.items)))
         (out_of result (drop 20 work.new.items)) ∷ []) }
     ensures owner { owner_of core.new ≡ owner_of core.old }
     ensures proper { IsProper result }
@@ -370,7 +385,8 @@ fn command_in<M: Medium, D: Disk>(
 fn write_answer(head: Frame, out: CommandOut, work: &mut Vec<u8>) -> usize
     requires room { vec_len work.old ≡ 524320 }
     requires proper { IsProper out }
-    ensures reply { take result (drop 4 work.new.items) ≡ spelled (frame 0x82 head.lun head.tag (answer_body out (drop 20 work.old.items))) }
+    ensures reply { take result (drop 4 work.new.items) ≡
+        spelled (frame 0x82 head.lun head.tag (answer_body out (drop 20 work.old.items))) }
     ensures within { result ≤ 524316 }
     ensures len { vec_len work.new ≡ 524320 }
 {
@@ -391,7 +407,9 @@ fn write_answer(head: Frame, out: CommandOut, work: &mut Vec<u8>) -> usize
 fn write_ended(head: Frame, status: Status, len: usize, work: &mut Vec<u8>) -> usize
     requires room { vec_len work.old ≡ 524320 }
     requires within { len ≤ 524288 }
-    ensures reply { take result (drop 4 work.new.items) ≡ spelled (frame 0x82 head.lun head.tag (command_reply status None (take len (drop 20 work.old.items)))) }
+    ensures reply { take result (drop 4 work.new.items) ≡
+        spelled (frame 0x82 head.lun head.tag
+        (command_reply status None (take len (drop 20 work.old.items)))) }
     ensures within { result ≤ 524316 }
     ensures len { vec_len work.new ≡ 524320 }
 {
@@ -404,7 +422,9 @@ fn write_ended(head: Frame, status: Status, len: usize, work: &mut Vec<u8>) -> u
 fn write_sense(head: Frame, sense: Sense, work: &mut Vec<u8>) -> usize
     requires room { vec_len work.old ≡ 524320 }
     requires key { sense.code.key < 16 }
-    ensures reply { take result (drop 4 work.new.items) ≡ spelled (frame 0x82 head.lun head.tag (command_reply Status.CheckCondition (Some sense) [])) }
+    ensures reply { take result (drop 4 work.new.items) ≡
+        spelled (frame 0x82 head.lun head.tag (command_reply Status.CheckCondition
+        (Some sense) [])) }
     ensures within { result ≤ 524316 }
     ensures len { vec_len work.new ≡ 524320 }
 {

@@ -1,13 +1,14 @@
 ghost use Rattle.std.specs.Prelude.{◌≡◌, ℕ, ◌+◌, ◌<◌, ◌≤◌, ◌^◌, List, [], ◌++◌, true, length, take, vec_len, vec_capacity, Option, Some, None, IfOk, OnOk, OnErr};
 ghost use Rattle.pr_words.specs.declared.nexus.Side.TheVariants.{Target};
 ghost use Rattle.pr_io.specs.Streams.{Took, Put, PutSome, HasEnded, MovesInto};
-ghost use Rattle.pr_io.specs.Causes.{HasCause, Rose};
+ghost use Rattle.pr_io.specs.Causes.{HasCause};
 ghost use Rattle.pr_grammar.specs.Frames.{Short, is_body};
 ghost use Rattle.pr_grammar.specs.Frames as frames;
 ghost use Rattle.pr_grammar.specs.Shows.{line_of, last_line, size_of_all};
 ghost use Rattle.pr_link.specs.Streams.{frame_of};
 ghost use Rattle.pr_link.specs.Deframer.{stream_of, held_of, place_of};
-ghost use Rattle.pr_tool.specs.Showing.{Shows, Causes, Decides, EndsWith, Finds};
+ghost use Rattle.pr_tool.specs.Counting.{sink_faults, sink_faults_by, CountsSource, CountsSourceBy};
+ghost use Rattle.pr_tool.specs.Showing.{Shows, ShowCauses, ShowDecides, EndsWith, Finds};
 
 use crate::exit::Exit;
 use crate::lines::{LINE, push_bad, push_cut, push_end, push_frame};
@@ -69,7 +70,8 @@ fn next_at(deframer: &mut Deframer, work: &mut [u8], n: usize) -> Got
     requires side { (stream_of deframer.old).side ≡ Target }
     requires unbroken { (stream_of deframer.old).broken ≡ None }
     requires room { length (held_of deframer.old) + n ≤ 524320 }
-    ensures { Finds (stream_of deframer.old) (take n work.old) result (stream_of deframer.new) work.new }
+    ensures { Finds (stream_of deframer.old) (take n work.old) result
+        (stream_of deframer.new) work.new }
 {
     deframer.feed(&work[..n]);
     deframer.next(work)
@@ -81,7 +83,8 @@ fn next_in(deframer: &mut Deframer, work: &mut Vec<u8>, n: usize) -> Got
     requires side { (stream_of deframer.old).side ≡ Target }
     requires unbroken { (stream_of deframer.old).broken ≡ None }
     requires room { length (held_of deframer.old) + n ≤ 524320 }
-    ensures finds { Finds (stream_of deframer.old) (take n work.old.items) result (stream_of deframer.new) work.new.items }
+    ensures finds { Finds (stream_of deframer.old) (take n work.old.items) result
+        (stream_of deframer.new) work.new.items }
     ensures len { length work.new.items ≡ length work.old.items }
 {
     next_at(deframer, work, n)
@@ -99,8 +102,11 @@ fn put_line<K: Sink>(
     requires room { vec_len text.old + 128 ≤ 65536 }
     requires within { frame.now.body ≤ length work.now }
     requires body { is_body Target frame.now.kind (take frame.now.body work.now) ≡ true }
-    ensures all { OnOk result ((sent : List ℕ) × Put (K.written sink.old) (K.written sink.new) sent × (text.old.items ++ line_of (frame_of frame.now (take frame.now.body work.now)) ≡ sent ++ text.new.items)) }
-    ensures some { OnErr result (PutSome (K.written sink.old) (K.written sink.new) (text.old.items ++ line_of (frame_of frame.now (take frame.now.body work.now)))) }
+    ensures all { OnOk result ((sent : List ℕ) × Put (K.written sink.old) (K.written sink.new) sent
+        × (text.old.items ++ line_of (frame_of frame.now (take frame.now.body work.now)) ≡
+        sent ++ text.new.items)) }
+    ensures some { OnErr result (PutSome (K.written sink.old) (K.written sink.new) (text.old.items
+        ++ line_of (frame_of frame.now (take frame.now.body work.now)))) }
     ensures taken { 65536 ≤ vec_capacity text.new }
     ensures room { OnOk result (vec_len text.new + 128 ≤ 65536) }
     ensures cause { HasCause (K.faults sink.old) (K.faults sink.new) result }
@@ -131,8 +137,8 @@ fn text_buffer(alloc: Global) -> Result<Vec<u8>, AllocError>
 
 /// Puts all lines, with which a run ends: with this exit, or because the sink failed.
 fn stop<K: Sink>(sink: &mut K, text: &[u8], exit: Exit) -> Exit
-    ensures ends { EndsWith exit result (K.written sink.old) (K.written sink.new) text.now (K.faults sink.old) (K.faults sink.new) }
-    ensures later { K.faults sink.old ≤ K.faults sink.new }
+    ensures ends { EndsWith exit result (K.written sink.old) (K.written sink.new) text.now
+        (K.faults sink.old) (K.faults sink.new) }
 {
     match put_all(sink, text) {
         Ok(()) => exit,
@@ -141,12 +147,12 @@ fn stop<K: Sink>(sink: &mut K, text: &[u8], exit: Exit) -> Exit
 }
 
 impl Viewer {
-    ghost use Rattle.pr_tool.specs.Showing.{Ready, Goes, Steps, Stands};
+    ghost use Rattle.pr_tool.specs.Showing.{Ready, ViewerGoes, Steps, ViewerEnds};
 
     /// Of a stream of which so many bytes are looked at, and which none has come of.
     fn new(alloc: Global, budget: u64) -> Result<Viewer, AllocError>
         ensures ready { IfOk result (λ v. Ready v) }
-        ensures goes { IfOk result (λ v. (r w : Option (List ℕ)) → Goes budget r r w w v) }
+        ensures goes { IfOk result (λ v. (r w : Option (List ℕ)) → ViewerGoes budget r r w w v) }
     {
         Ok(Viewer {
             deframer: Deframer::new(alloc, Side::Target)?,
@@ -162,11 +168,13 @@ impl Viewer {
     fn end<K: Sink>(&mut self, sink: &mut K) -> Exit
         requires taken { 65536 ≤ vec_capacity self.old.text }
         requires room { vec_len self.old.text + 128 ≤ 65536 }
-        ensures ends { (fs : List frames.Frame) (lacks : ℕ) → self.old.frames ≡ length fs → place_of self.old.deframer ≡ size_of_all fs →
-            EndsWith Exit.Done result (K.written sink.old) (K.written sink.new) (self.old.text.items ++ last_line fs (held_of self.old.deframer) (Short lacks)) (K.faults sink.old) (K.faults sink.new) }
+        ensures ends { (fs : List frames.Frame) (lacks : ℕ) → self.old.frames ≡ length fs →
+            place_of self.old.deframer ≡ size_of_all fs →
+            EndsWith Exit.Done result (K.written sink.old) (K.written sink.new)
+            (self.old.text.items ++ last_line fs (held_of self.old.deframer) (Short lacks))
+            (K.faults sink.old) (K.faults sink.new) }
         ensures read { result ≡ Exit.ReadFault → ⊥ }
-        ensures write { result ≡ Exit.WriteFault → Rose (K.faults sink.old) (K.faults sink.new) }
-        ensures later { K.faults sink.old ≤ K.faults sink.new }
+        ensures faults { K.faults sink.new ≡ sink_faults result (K.faults sink.old) }
     {
         let held = self.deframer.held();
         if held == 0 {
@@ -181,11 +189,11 @@ impl Viewer {
     fn look_behind<S: Source, K: Sink>(&mut self, source: &mut S, sink: &mut K) -> Exit
         requires ready { Ready self.old }
         requires none { self.old.left ≡ 0 }
-        ensures stands { (budget : ℕ) (ra wa : Option (List ℕ)) → Goes budget ra (S.rest source.old) wa (K.written sink.old) self.old → Stands budget ra (S.rest source.new) wa (K.written sink.new) result }
-        ensures read { result ≡ Exit.ReadFault → Rose (S.faults source.old) (S.faults source.new) }
-        ensures write { result ≡ Exit.WriteFault → Rose (K.faults sink.old) (K.faults sink.new) }
-        ensures read_later { S.faults source.old ≤ S.faults source.new }
-        ensures write_later { K.faults sink.old ≤ K.faults sink.new }
+        ensures stands { (budget : ℕ) (ra wa : Option (List ℕ)) →
+            ViewerGoes budget ra (S.rest source.old) wa (K.written sink.old) self.old →
+            ViewerEnds budget ra (S.rest source.new) wa (K.written sink.new) result }
+        ensures read_faults { CountsSource result (S.faults source.old) (S.faults source.new) }
+        ensures write_faults { K.faults sink.new ≡ sink_faults result (K.faults sink.old) }
     {
         let Ok(n) = source.take(&mut [0]) else {
             return stop(sink, &self.text, Exit::ReadFault);
@@ -202,12 +210,14 @@ impl Viewer {
         requires some { 0 < n }
         requires few { n ≤ self.old.need }
         requires looked { n ≤ self.old.left }
-        ensures steps { (budget : ℕ) (ra rb rc wa : Option (List ℕ)) → Goes budget ra rb wa (K.written sink.old) self.old → Took rb rc (take n self.old.work.items) → Steps budget ra rc wa (K.written sink.new) self.new result }
+        ensures steps { (budget : ℕ) (ra rb rc wa : Option (List ℕ)) →
+            ViewerGoes budget ra rb wa (K.written sink.old) self.old →
+            Took rb rc (take n self.old.work.items) →
+            Steps budget ra rc wa (K.written sink.new) self.new result }
         ensures ready { result ≡ None → Ready self.new }
         ensures fewer { result ≡ None → self.new.left + n ≡ self.old.left }
         ensures read { result ≡ Some Exit.ReadFault → ⊥ }
-        ensures write { result ≡ Some Exit.WriteFault → Rose (K.faults sink.old) (K.faults sink.new) }
-        ensures later { K.faults sink.old ≤ K.faults sink.new }
+        ensures faults { K.faults sink.new ≡ sink_faults_by result (K.faults sink.old) }
     {
         self.left -= n as u64;
         match next_in(&mut self.deframer, &mut self.work, n) {
@@ -233,13 +243,13 @@ impl Viewer {
     /// Takes some of the bytes that lack, and looks at them. The exit, where the run ends.
     fn step<S: Source, K: Sink>(&mut self, source: &mut S, sink: &mut K) -> Option<Exit>
         requires { Ready self.old }
-        ensures steps { (budget : ℕ) (ra wa : Option (List ℕ)) → Goes budget ra (S.rest source.old) wa (K.written sink.old) self.old → Steps budget ra (S.rest source.new) wa (K.written sink.new) self.new result }
+        ensures steps { (budget : ℕ) (ra wa : Option (List ℕ)) →
+            ViewerGoes budget ra (S.rest source.old) wa (K.written sink.old) self.old →
+            Steps budget ra (S.rest source.new) wa (K.written sink.new) self.new result }
         ensures ready { result ≡ None → Ready self.new }
         ensures fewer { result ≡ None → self.new.left < self.old.left }
-        ensures read { result ≡ Some Exit.ReadFault → Rose (S.faults source.old) (S.faults source.new) }
-        ensures write { result ≡ Some Exit.WriteFault → Rose (K.faults sink.old) (K.faults sink.new) }
-        ensures read_later { S.faults source.old ≤ S.faults source.new }
-        ensures write_later { K.faults sink.old ≤ K.faults sink.new }
+        ensures read_faults { CountsSourceBy result (S.faults source.old) (S.faults source.new) }
+        ensures write_faults { K.faults sink.new ≡ sink_faults_by result (K.faults sink.old) }
     {
         let room = self.left.min(self.need as u64) as usize;
         if room == 0 {
@@ -262,10 +272,11 @@ pub(crate) fn show_within<S: Source, K: Sink>(
     sink: &mut K,
     budget: u64,
 ) -> Exit
-    ensures shows { Shows result (S.rest source.old) (S.rest source.new) (K.written sink.old) (K.written sink.new) }
-    ensures causes { Causes result budget (S.rest source.old) }
-    ensures read { result ≡ Exit.ReadFault → Rose (S.faults source.old) (S.faults source.new) }
-    ensures write { result ≡ Exit.WriteFault → Rose (K.faults sink.old) (K.faults sink.new) }
+    ensures shows { Shows result (S.rest source.old) (S.rest source.new) (K.written sink.old)
+        (K.written sink.new) }
+    ensures causes { ShowCauses result budget (S.rest source.old) }
+    ensures read_faults { CountsSource result (S.faults source.old) (S.faults source.new) }
+    ensures write_faults { K.faults sink.new ≡ sink_faults result (K.faults sink.old) }
     ensures untouched { result ≡ Exit.NoMemory → (source.new ≡ source.old) × (sink.new ≡ sink.old) }
 {
     let Ok(mut viewer) = Viewer::new(alloc, budget) else {
@@ -290,13 +301,14 @@ pub(crate) fn show_within<S: Source, K: Sink>(
 /// first 2^32 bytes. But where the sink failed, the lines of the frames before are written.
 pub fn show_main<S: Source, K: Sink>(alloc: Global, source: &mut S, sink: &mut K) -> Exit
     // What was read and written, by the exit.
-    ensures shows { Shows result (S.rest source.old) (S.rest source.new) (K.written sink.old) (K.written sink.new) }
+    ensures shows { Shows result (S.rest source.old) (S.rest source.new) (K.written sink.old)
+        (K.written sink.new) }
 
     // The causes of the exits, and that what the stream alone brings is the exit.
-    ensures causes { Causes result (2 ^ 32) (S.rest source.old) }
-    ensures decides { Decides result (2 ^ 32) (S.rest source.old) }
-    ensures read { result ≡ Exit.ReadFault → Rose (S.faults source.old) (S.faults source.new) }
-    ensures write { result ≡ Exit.WriteFault → Rose (K.faults sink.old) (K.faults sink.new) }
+    ensures causes { ShowCauses result (2 ^ 32) (S.rest source.old) }
+    ensures decides { ShowDecides result (2 ^ 32) (S.rest source.old) }
+    ensures read_faults { CountsSource result (S.faults source.old) (S.faults source.new) }
+    ensures write_faults { K.faults sink.new ≡ sink_faults result (K.faults sink.old) }
     ensures untouched { result ≡ Exit.NoMemory → (source.new ≡ source.old) × (sink.new ≡ sink.old) }
 {
     show_within(alloc, source, sink, BUDGET)

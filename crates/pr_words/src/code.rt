@@ -90,6 +90,20 @@ impl Code {
         ascq: 4,
     };
 
+    /// WRITE ERROR.
+    pub const WRITE_ERROR: Code = Code {
+        key: 3,
+        asc: 0x0C,
+        ascq: 0,
+    };
+
+    /// UNRECOVERED READ ERROR.
+    pub const UNRECOVERED_READ_ERROR: Code = Code {
+        key: 3,
+        asc: 0x11,
+        ascq: 0,
+    };
+
     /// POWER ON, RESET, OR BUS DEVICE RESET OCCURRED.
     pub const POWER_ON: Code = Code {
         key: 6,

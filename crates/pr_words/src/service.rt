@@ -1,4 +1,4 @@
-ghost use Rattle.std.specs.Prelude.{◌≡◌};
+ghost use Rattle.std.specs.Prelude.{◌≡◌, IfSome};
 ghost use Rattle.pr_words.specs.Services.{in_service_at, in_service_code, out_service_at, out_service_code};
 
 /// The service actions of PERSISTENT RESERVE IN (SPC-4).
@@ -37,7 +37,8 @@ impl InService {
     /// The service action with this number in the SERVICE ACTION field of a CDB. None where SPC-4 has
     /// no such service action.
     pub fn of(code: u8) -> Option<InService>
-        ensures { result ≡ in_service_at code }
+        ensures at { result ≡ in_service_at code }
+        ensures named { IfSome result (λ s. in_service_code s ≡ code) }
     {
         match code {
             0 => Some(InService::ReadKeys),
@@ -65,7 +66,8 @@ impl OutService {
     /// The service action with this number in the SERVICE ACTION field of a CDB. None where this target
     /// has no such service action.
     pub fn of(code: u8) -> Option<OutService>
-        ensures { result ≡ out_service_at code }
+        ensures at { result ≡ out_service_at code }
+        ensures named { IfSome result (λ s. out_service_code s ≡ code) }
     {
         match code {
             0 => Some(OutService::Register),

@@ -20,4 +20,4 @@ loop-at-preserved g c =
 
 pub returns-in_err-at-clause-some : goal.returns-in_err-at-clause-some
 returns-in_err-at-clause-some g c =
-    always_err c.from_residual.result (take c.loop-at.at c.args.piece.now, drop c.loop-at.at c.args.piece.now, sym (take-append-drop c.loop-at.at c.args.piece.now), rw (rw c.in_err-at.was at c.put.ensures.bytes) c.loop-at.invariant.puts)
+    always_err c.from_residual.result (take c.loop-at.at c.args.piece.now, drop c.loop-at.at c.args.piece.now, sym (take-append-drop c.loop-at.at c.args.piece.now), rw (rw c.in_err-at.was at c.put.ensures.bytes) c.loop-at.invariant.puts, omega (arith, length-drop c.loop-at.at c.args.piece.now, c.loop-at-test.true))

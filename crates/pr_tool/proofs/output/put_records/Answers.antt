@@ -1,4 +1,4 @@
-use Rattle.std.proofs.Common.{◌≡◌, ◌+◌, ◌-◌, ℕ, take, drop, arith, subst, ◌∙◌}
+use Rattle.std.proofs.Common.{◌≡◌, ◌+◌, ◌-◌, ℕ, take, drop, ◌∙◌, arith, subst}
 use Rattle.pr_grammar.specs.Outputs.{output_record}
 use Rattle.pr_io.specs.Streams.{Put, PutSome}
 use Rattle.pr_io.proofs.Sent.{always_err}
@@ -18,7 +18,7 @@ loop-at-preserved g c =
     record {
       within = omega (arith, c.min-len.ensures, c.loop-at-test.true);
       written = written_more _ _ _ c.args.lane c.args.bytes.now c.loop-at.at c.min-len.result c.loop-at-test.true c.min-len.ensures c.loop-at.invariant.written all;
-      calm = c.in_ok-put_record.ensures.cause.calm ∙ c.loop-at.invariant.calm;
+      calm = (rw c.in_ok-put_record.was at c.put_record.ensures.cause.calm) ∙ c.loop-at.invariant.calm;
     }
 
 pub returns-clause-all : goal.returns-clause-all

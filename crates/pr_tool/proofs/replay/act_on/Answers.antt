@@ -3,12 +3,12 @@ use Rattle.std.specs.Prelude.{slice_index_or}
 use Rattle.pr_grammar.specs.Schedules.{Record}
 use Rattle.pr_grammar.specs.Schedules as schedules
 use Rattle.pr_io.proofs.Sent.{on_ok, on_err}
-use Rattle.pr_model.specs.Runs.{RunsRecord, BeginsRecord}
+use Rattle.pr_model.specs.Runs.{RunsRecord, CutsRecord}
 use Rattle.pr_core.specs.View.{KeepsOthers}
 use Rattle.pr_tool.specs.Following.{Agrees}
 use Rattle.pr_tool.specs.Reading.{record_of}
 use Rattle.pr_tool.specs.Sessions.{lane_of}
-use Rattle.pr_tool.proofs.Places.{below, session_agrees, session_ran, session_begun, sessions_agree}
+use Rattle.pr_tool.proofs.Places.{below, session_agrees, session_ran, session_cut, sessions_agree}
 use Rattle.pr_tool.proofs.replay.act_on.Goals as goal
 
 pub act-requires-clause-agrees : goal.act-requires-clause-agrees
@@ -23,14 +23,14 @@ returns-clause-all g c =
     let r : Record = record_of c.args.found c.args.body.now in
     let at : c.lane.result ≡ schedules.lane_of r = c.lane.ensures c.args.body.now in
     let within : c.lane.result < length c.args.lanes.now = omega (arith, at, below (length c.args.lanes.now) r c.requires.valid) in
-    on_ok c.act.result (session_ran RunsRecord r c.args.lanes.now c.lane.result c.index-lanes-lane.result c.act.new.lane c.args.core.now c.act.new.core _ _ _ at within) c.act.ensures.all
+    on_ok c.act.result (session_ran RunsRecord r c.args.lanes.now c.lane.result c.index-lanes-lane.result c.act.new.lane c.args.core.now c.act.new.core _ _ at within) c.act.ensures.all
 
 pub returns-clause-some : goal.returns-clause-some
 returns-clause-some g c =
     let r : Record = record_of c.args.found c.args.body.now in
     let at : c.lane.result ≡ schedules.lane_of r = c.lane.ensures c.args.body.now in
     let within : c.lane.result < length c.args.lanes.now = omega (arith, at, below (length c.args.lanes.now) r c.requires.valid) in
-    on_err c.act.result (session_begun BeginsRecord r c.args.lanes.now c.lane.result c.index-lanes-lane.result c.args.core.now c.act.new.core _ _ at within) c.act.ensures.some
+    on_err c.act.result (session_cut CutsRecord r c.args.lanes.now c.lane.result c.index-lanes-lane.result c.args.core.now c.act.new.core _ _ at within) c.act.ensures.some
 
 pub returns-clause-agree : goal.returns-clause-agree
 returns-clause-agree g c =

@@ -1,10 +1,10 @@
-use Rattle.std.proofs.Common.{◌≡◌, ◌≤◌, ◌<◌, ◌-◌, ℕ, List, [], take, drop, length, subst, arith, refl, ◌∙◌}
+use Rattle.std.proofs.Common.{◌≡◌, ◌≤◌, ◌<◌, ◌-◌, ℕ, List, [], take, drop, length, refl, ◌∙◌, subst, arith}
 use Rattle.std.proofs.lemmas.List.{length-drop}
 use Rattle.pr_model.specs.Lanes.{arrived}
 use Rattle.pr_io.proofs.Sent.{always_err}
 use Rattle.pr_tool.specs.Following.{fed}
 use Rattle.pr_tool.specs.Sessions.{lane_of}
-use Rattle.pr_tool.proofs.Running.{room_start, room_more, room_fed, room_end, room_begun, fed_full, fed_within, agrees_still, all_behind}
+use Rattle.pr_tool.proofs.Running.{room_start, room_more, room_fed, room_end, room_cut, fed_full, fed_within, agrees_still, all_behind}
 use Rattle.pr_tool.proofs.Places.{keeps_more}
 use Rattle.pr_tool.proofs.replay.arrive.Goals as goal
 
@@ -25,14 +25,11 @@ loop-at-init g c =
 pub returns-in_err-step-clause-some : goal.returns-in_err-step-clause-some
 returns-in_err-step-clause-some g c =
     let rest : List ℕ = drop c.loop-at.at c.args.bytes.now in
-    let some = c.in_err-step.ensures.some in
     let full = c.loop-at.invariant.full c.loop-at-test.true in
     let behind : 0 < length rest = omega (arith, length-drop c.loop-at.at c.args.bytes.now, c.loop-at-test.true) in
     always_err c.from_residual.result (
       arrived (lane_of c.step.new.lane) rest,
-      some.0,
-      room_begun c.args.who c.args.core.now c.step.new.core _ _ (lane_of c.args.lane.now) _ c.args.bytes.now some.0
-          (room_more c.args.who c.args.core.now c.loop-at.core c.step.new.core _ _ _ (lane_of c.args.lane.now) (lane_of c.loop-at.lane) (lane_of c.step.new.lane) c.args.bytes.now rest some.0 c.loop-at.invariant.ran full.0 full.1 behind some.1),
+      room_cut c.args.who c.args.core.now c.loop-at.core c.step.new.core _ _ _ (lane_of c.args.lane.now) (lane_of c.loop-at.lane) (lane_of c.step.new.lane) c.args.bytes.now rest c.loop-at.invariant.ran full.0 full.1 behind c.in_err-step.ensures.some,
     )
 
 pub returns-in_err-step-clause-others : goal.returns-in_err-step-clause-others
@@ -57,12 +54,12 @@ loop-at-preserved g c =
       within = omega (arith, within, size, c.loop-at-test.true);
       ran =
           room_fed c.args.who c.args.core.now c.step.new.core _ _ l mid next bytes at n
-          (room_more c.args.who c.args.core.now c.loop-at.core c.step.new.core _ _ _ l (lane_of c.loop-at.lane) mid bytes rest [] c.loop-at.invariant.ran full.0 full.1 behind c.in_ok-step.ensures.all) goes;
+          (room_more c.args.who c.args.core.now c.loop-at.core c.step.new.core _ _ _ l (lane_of c.loop-at.lane) mid bytes rest c.loop-at.invariant.ran full.0 full.1 behind c.in_ok-step.ensures.all) goes;
       others = keeps_more c.args.who c.args.core.now c.loop-at.core c.step.new.core c.loop-at.invariant.others c.step.ensures.others;
       agrees = agrees_still c.args.who c.step.new.core mid next (take n rest) goes c.step.ensures.agrees;
       full = λ less. fed_full mid next rest n count goes c.feed-at-in-loop-at.ensures.bound (omega (arith, less, size));
       bound = c.feed-at-in-loop-at.ensures.bound;
-      calm = c.in_ok-step.ensures.cause.calm ∙ c.loop-at.invariant.calm;
+      calm = (rw c.in_ok-step.was at c.step.ensures.cause.calm) ∙ c.loop-at.invariant.calm;
     }
 
 pub returns-clause-all : goal.returns-clause-all

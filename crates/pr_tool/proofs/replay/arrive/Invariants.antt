@@ -2,6 +2,7 @@ use Rattle.std.proofs.Common.{◌≡◌, ◌≤◌, ◌<◌, ◌-◌, [], length
 use Rattle.pr_model.specs.Limits.{HELD}
 use Rattle.pr_model.specs.Lanes.{Dead, arrived}
 use Rattle.pr_core.specs.View.{KeepsOthers}
+use Rattle.pr_io.specs.Told.{told_sink}
 use Rattle.pr_tool.specs.Following.{Agrees}
 use Rattle.pr_tool.specs.Exits.{Ran}
 use Rattle.pr_tool.specs.Sessions.{lane_of}
@@ -12,7 +13,7 @@ abbrev pub invariant-loop-at : goal.invariant-loop-at
 invariant-loop-at g l =
     record {
       within : l.at ≤ length l.bytes;
-      ran : Ran (Makes_room l.who l.bytes) (g.K.Sink.written l.initial.sink) (g.K.Sink.written l.sink) l.initial.core (lane_of l.fn.lane) l.core (arrived (lane_of l.lane) (drop l.at l.bytes)) [];
+      ran : Ran (Makes_room l.who l.bytes) (told_sink g.K.Sink l.initial.sink) (told_sink g.K.Sink l.sink) l.initial.core (lane_of l.fn.lane) l.core (arrived (lane_of l.lane) (drop l.at l.bytes));
       agrees : Agrees (lane_of l.lane).phase l.who l.core;
       others : KeepsOthers l.who l.initial.core l.core;
       full : l.at < length l.bytes → (length (lane_of l.lane).bytes ≡ HELD) × ((lane_of l.lane).phase ≡ Dead → ⊥);

@@ -1,27 +1,24 @@
 use Rattle.std.proofs.Common.{◌≡◌, ◌+◌, ◌-◌, ◌≤◌, ℕ, length, refl, sym, ◌∙◌, subst, arith}
 use Rattle.pr_core.specs.View.{blocks_of}
+use Rattle.pr_io.specs.Told.{told_streams}
 use Rattle.pr_tool.specs.declared.exit.Exit.{Exit}
-use Rattle.pr_tool.specs.Exits.{GoesOn, Stands, Causes}
+use Rattle.pr_tool.specs.Exits.{RunEnds, Causes}
 use Rattle.pr_tool.specs.Stops.{Did, StopsBy}
 use Rattle.pr_tool.specs.Sessions.{lanes_of}
-use Rattle.pr_tool.proofs.Standing.{run_first, run_more, run_stops, told_first, told_more, told_stops, not_words}
+use Rattle.pr_tool.proofs.Standing.{run_first, run_more, run_stops, told_first, told_more, run_causes}
 use Rattle.pr_tool.proofs.Places.{fresh_agree}
 use Rattle.pr_tool.proofs.replay.run.Goals as goal
 
 pub records-init : goal.records-init
 records-init g c =
     let lanes : ℕ = length c.args.lanes.now in
-    let none : 0 ≡ c.args.budget - c.args.budget = omega arith in
     record {
-      goes = subst (λ (n : ℕ). GoesOn lanes c.args.core.now (blocks_of c.args.core.now) (g.S.Source.rest c.args.source.now) (g.S.Source.rest c.args.source.now) (g.K.Sink.written c.args.sink.now) (g.K.Sink.written c.args.sink.now) (lanes_of c.args.lanes.now) n) none
-          (run_first lanes c.args.core.now _ _ (lanes_of c.args.lanes.now) c.requires.opening c.requires.fresh);
+      goes = run_first lanes c.args.budget c.args.core.now _ (lanes_of c.args.lanes.now) c.requires.opening c.requires.fresh;
       carries = told_first lanes c.args.budget (g.S.Source.rest c.args.source.now);
       within = omega arith;
       agree = fresh_agree lanes (lanes_of c.args.lanes.now) c.args.core.now c.requires.fresh;
       count = refl;
       room = c.requires.room;
-      read_later = omega arith;
-      write_later = omega arith;
     }
 
 pub records-preserved : goal.records-preserved
@@ -29,37 +26,29 @@ records-preserved g c =
     let lanes : ℕ = length c.args.lanes.now in
     let left : ℕ = c.records.left in
     let size : ℕ = c.in-Ok.size in
-    let did : Did lanes left (g.S.Source.rest c.records.source) (g.S.Source.rest c.run_one.new.source) (g.K.Sink.written c.records.sink) (g.K.Sink.written c.run_one.new.sink) c.records.core (lanes_of c.records.lanes) c.run_one.new.core (lanes_of c.run_one.new.lanes) size =
-    subst (λ (k : ℕ). Did k left (g.S.Source.rest c.records.source) (g.S.Source.rest c.run_one.new.source) (g.K.Sink.written c.records.sink) (g.K.Sink.written c.run_one.new.sink) c.records.core (lanes_of c.records.lanes) c.run_one.new.core (lanes_of c.run_one.new.lanes) size) c.records.invariant.count c.in-Ok.ensures.does in
-    let within : size ≤ left = omega (arith, did.counted, did.within) in
-    let sum : c.args.budget - left + size ≡ c.args.budget - (left - size) = omega (arith, within, c.records.invariant.within) in
+    let did : Did lanes left (told_streams g.S.Source g.K.Sink c.records.source c.records.sink) (told_streams g.S.Source g.K.Sink c.run_one.new.source c.run_one.new.sink) c.records.core (lanes_of c.records.lanes) c.run_one.new.core (lanes_of c.run_one.new.lanes) size =
+    subst (λ (k : ℕ). Did k left (told_streams g.S.Source g.K.Sink c.records.source c.records.sink) (told_streams g.S.Source g.K.Sink c.run_one.new.source c.run_one.new.sink) c.records.core (lanes_of c.records.lanes) c.run_one.new.core (lanes_of c.run_one.new.lanes) size) c.records.invariant.count c.in-Ok.ensures.does in
     record {
-      goes = subst (λ (n : ℕ). GoesOn lanes c.run_one.new.core (blocks_of c.args.core.now) (g.S.Source.rest c.args.source.now) (g.S.Source.rest c.run_one.new.source) (g.K.Sink.written c.args.sink.now) (g.K.Sink.written c.run_one.new.sink) (lanes_of c.run_one.new.lanes) n) sum
-          (run_more lanes c.records.core c.run_one.new.core (blocks_of c.args.core.now) left _ _ _ _ _ _ (lanes_of c.records.lanes) (lanes_of c.run_one.new.lanes) (c.args.budget - left) size c.records.invariant.goes did);
-      carries = told_more lanes c.args.budget left size _ _ _ _ _ c.records.core c.run_one.new.core (lanes_of c.records.lanes) (lanes_of c.run_one.new.lanes) c.records.invariant.carries did;
+      goes = run_more lanes c.args.budget left size c.records.core c.run_one.new.core (blocks_of c.args.core.now) _ _ _ (lanes_of c.records.lanes) (lanes_of c.run_one.new.lanes) c.records.invariant.goes did;
+      carries = told_more lanes c.args.budget left size did.first _ _ _ did.valid did.within did.counted did.took c.records.invariant.carries;
       within = omega (arith, c.records.invariant.within);
       agree = c.run_one.ensures.agree;
       count = c.run_one.ensures.count ∙ c.records.invariant.count;
       room = c.run_one.ensures.room;
-      read_later = omega (arith, c.run_one.ensures.read_later, c.records.invariant.read_later);
-      write_later = omega (arith, c.run_one.ensures.write_later, c.records.invariant.write_later);
     }
 
-pub returns-in-Err-clause-stands : goal.returns-in-Err-clause-stands
-returns-in-Err-clause-stands g c =
+pub returns-in-Err-clause-ends : goal.returns-in-Err-clause-ends
+returns-in-Err-clause-ends g c =
     let lanes : ℕ = length c.args.lanes.now in
-    let stops : StopsBy lanes c.records.left c.in-Err.stop (g.S.Source.rest c.records.source) (g.S.Source.rest c.run_one.new.source) (g.K.Sink.written c.records.sink) (g.K.Sink.written c.run_one.new.sink) c.records.core (lanes_of c.records.lanes) c.run_one.new.core =
-    subst (λ (k : ℕ). StopsBy k c.records.left c.in-Err.stop (g.S.Source.rest c.records.source) (g.S.Source.rest c.run_one.new.source) (g.K.Sink.written c.records.sink) (g.K.Sink.written c.run_one.new.sink) c.records.core (lanes_of c.records.lanes) c.run_one.new.core) c.records.invariant.count c.in-Err.ensures.does in
-    subst (λ (e : Exit). Stands lanes e (blocks_of c.args.core.now) (g.S.Source.rest c.args.source.now) (g.S.Source.rest c.run_one.new.source) (g.K.Sink.written c.args.sink.now) (g.K.Sink.written c.run_one.new.sink)) (sym c.exit.ensures)
-    (run_stops lanes c.in-Err.stop c.records.core c.run_one.new.core (blocks_of c.args.core.now) c.records.left _ _ _ _ _ _ (lanes_of c.records.lanes) (c.args.budget - c.records.left) c.records.invariant.goes stops)
+    let stops : StopsBy lanes c.records.left c.in-Err.stop (told_streams g.S.Source g.K.Sink c.records.source c.records.sink) (told_streams g.S.Source g.K.Sink c.run_one.new.source c.run_one.new.sink) c.records.core (lanes_of c.records.lanes) c.run_one.new.core =
+    subst (λ (k : ℕ). StopsBy k c.records.left c.in-Err.stop (told_streams g.S.Source g.K.Sink c.records.source c.records.sink) (told_streams g.S.Source g.K.Sink c.run_one.new.source c.run_one.new.sink) c.records.core (lanes_of c.records.lanes) c.run_one.new.core) c.records.invariant.count c.in-Err.ensures.does in
+    subst (λ (e : Exit). RunEnds lanes c.args.budget (blocks_of c.args.core.now) e (told_streams g.S.Source g.K.Sink c.args.source.now c.args.sink.now) (told_streams g.S.Source g.K.Sink c.run_one.new.source c.run_one.new.sink)) (sym c.exit.ensures)
+    (run_stops lanes c.args.budget c.records.left c.in-Err.stop c.records.core c.run_one.new.core (blocks_of c.args.core.now) (c.args.budget - c.records.left) _ _ _ (lanes_of c.records.lanes) (omega (arith, c.records.invariant.within)) c.records.invariant.goes stops)
 
 pub returns-in-Err-clause-causes : goal.returns-in-Err-clause-causes
 returns-in-Err-clause-causes g c =
     let lanes : ℕ = length c.args.lanes.now in
-    let stops : StopsBy lanes c.records.left c.in-Err.stop (g.S.Source.rest c.records.source) (g.S.Source.rest c.run_one.new.source) (g.K.Sink.written c.records.sink) (g.K.Sink.written c.run_one.new.sink) c.records.core (lanes_of c.records.lanes) c.run_one.new.core =
-    subst (λ (k : ℕ). StopsBy k c.records.left c.in-Err.stop (g.S.Source.rest c.records.source) (g.S.Source.rest c.run_one.new.source) (g.K.Sink.written c.records.sink) (g.K.Sink.written c.run_one.new.sink) c.records.core (lanes_of c.records.lanes) c.run_one.new.core) c.records.invariant.count c.in-Err.ensures.does in
+    let stops : StopsBy lanes c.records.left c.in-Err.stop (told_streams g.S.Source g.K.Sink c.records.source c.records.sink) (told_streams g.S.Source g.K.Sink c.run_one.new.source c.run_one.new.sink) c.records.core (lanes_of c.records.lanes) c.run_one.new.core =
+    subst (λ (k : ℕ). StopsBy k c.records.left c.in-Err.stop (told_streams g.S.Source g.K.Sink c.records.source c.records.sink) (told_streams g.S.Source g.K.Sink c.run_one.new.source c.run_one.new.sink) c.records.core (lanes_of c.records.lanes) c.run_one.new.core) c.records.invariant.count c.in-Err.ensures.does in
     subst (λ (e : Exit). Causes lanes e c.args.budget (g.S.Source.rest c.args.source.now)) (sym c.exit.ensures)
-    (told_stops lanes c.in-Err.stop c.args.budget c.records.left (c.args.budget - c.records.left) _ _ _ _ _ c.records.core c.run_one.new.core (lanes_of c.records.lanes) c.records.invariant.carries stops)
-
-pub returns-in-Err-clause-begun : goal.returns-in-Err-clause-begun
-returns-in-Err-clause-begun g c is = not_words c.in-Err.stop (c.args.budget - c.records.left) (sym c.exit.ensures ∙ is)
+    (run_causes lanes c.in-Err.stop c.args.budget c.records.left (c.args.budget - c.records.left) _ _ _ c.records.core c.run_one.new.core (lanes_of c.records.lanes) (omega (arith, c.records.invariant.within)) c.records.invariant.carries stops)

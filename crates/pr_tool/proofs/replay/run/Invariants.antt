@@ -1,5 +1,6 @@
 use Rattle.std.proofs.Common.{◌≡◌, ◌≤◌, ◌-◌, length, vec_len}
 use Rattle.pr_core.specs.View.{blocks_of}
+use Rattle.pr_io.specs.Told.{told_streams}
 use Rattle.pr_tool.specs.Following.{AllAgree}
 use Rattle.pr_tool.specs.Exits.{GoesOn}
 use Rattle.pr_tool.specs.Sessions.{lanes_of}
@@ -9,14 +10,12 @@ use Rattle.pr_tool.proofs.replay.run.Given as goal
 abbrev pub invariant-records : goal.invariant-records
 invariant-records g l =
     record {
-      goes : GoesOn (length l.initial.lanes) l.core (blocks_of l.initial.core) (g.S.Source.rest l.initial.source) (g.S.Source.rest l.source) (g.K.Sink.written l.initial.sink) (g.K.Sink.written l.sink) (lanes_of l.lanes) (l.budget - l.left);
+      goes : GoesOn (length l.initial.lanes) l.budget l.left l.core (blocks_of l.initial.core) (told_streams g.S.Source g.K.Sink l.initial.source l.initial.sink) (told_streams g.S.Source g.K.Sink l.source l.sink) (lanes_of l.lanes);
       carries : CarriesTold (length l.initial.lanes) l.budget l.left (g.S.Source.rest l.initial.source) (g.S.Source.rest l.source);
       within : l.left ≤ l.budget;
       agree : AllAgree (lanes_of l.lanes) l.core;
       count : length l.lanes ≡ length l.initial.lanes;
       room : vec_len l.body ≡ 65535;
-      read_later : g.S.Source.faults l.initial.source ≤ g.S.Source.faults l.source;
-      write_later : g.K.Sink.faults l.initial.sink ≤ g.K.Sink.faults l.sink;
     }
 
 abbrev pub decreases-records : goal.decreases-records

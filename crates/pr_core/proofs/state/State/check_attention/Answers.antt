@@ -1,7 +1,8 @@
-use Rattle.std.proofs.Common.{◌∙◌, sym, refl}
+use Rattle.std.proofs.Common.{◌∙◌, sym, ap, refl}
+use Rattle.pr_grammar.specs.Operations.{unconditional_in}
 use std.Path.{fun_ext}
 use Rattle.pr_core.specs.Seats.{seat_of}
-use Rattle.pr_core.proofs.Sitting.{takes_some, takes_owner, attention_passes, attention_reported}
+use Rattle.pr_core.proofs.Sitting.{takes_some, takes_owner, attention_passes, attention_reported, attention_passed_over}
 use Rattle.pr_core.proofs.state.State.check_attention.Goals as goal
 
 pub invariant_of-self : goal.invariant_of-self
@@ -13,10 +14,10 @@ invariant_of-self c =
     }
 
 pub returns-in-Some-clause-passes : goal.returns-in-Some-clause-passes
-returns-in-Some-clause-passes c =
-    attention_reported c.args.self.now _ c.args.nexus c.args.operation c.in-Some.code
+returns-in-Some-clause-passes c op at =
+    attention_reported c.args.self.now _ c.args.nexus op c.in-Some.code
     (record { standing = refl; seat = c.take_attention.ensures.seat; count = c.take_attention.ensures.count; known = c.requires.known })
-    (sym c.is_unconditional.ensures ∙ c.if-is_unconditional.false) (sym c.in-Some.is ∙ c.take_attention.ensures.first) c.in-Some.ensures.known
+    (sym (ap unconditional_in at) ∙ sym c.is_unconditional.ensures ∙ c.if-is_unconditional.false) (sym c.in-Some.is ∙ c.take_attention.ensures.first) c.in-Some.ensures.known
 
 pub returns-in-Some-clause-owner : goal.returns-in-Some-clause-owner
 returns-in-Some-clause-owner c =
@@ -26,8 +27,8 @@ pub returns-in-Some-clause-known : goal.returns-in-Some-clause-known
 returns-in-Some-clause-known c = takes_some (seat_of c.args.self.now.seats) (seat_of c.take_attention.new.self) c.args.nexus c.take_attention.ensures.seat c.args.nexus ∙ c.requires.known
 
 pub returns-in-None-clause-passes : goal.returns-in-None-clause-passes
-returns-in-None-clause-passes c =
-    attention_passes c.args.self.now _ c.args.nexus c.args.operation
+returns-in-None-clause-passes c op at =
+    attention_passes c.args.self.now _ c.args.nexus op
     (record { standing = refl; seat = c.take_attention.ensures.seat; count = c.take_attention.ensures.count; known = c.requires.known })
     (sym c.in-None.is ∙ c.take_attention.ensures.first)
 
@@ -37,3 +38,7 @@ returns-in-None-clause-owner c =
 
 pub returns-in-None-clause-known : goal.returns-in-None-clause-known
 returns-in-None-clause-known c = takes_some (seat_of c.args.self.now.seats) (seat_of c.take_attention.new.self) c.args.nexus c.take_attention.ensures.seat c.args.nexus ∙ c.requires.known
+
+pub returns-then-is_unconditional-clause-passes : goal.returns-then-is_unconditional-clause-passes
+returns-then-is_unconditional-clause-passes c op at =
+    attention_passed_over c.args.self.now c.args.nexus op (sym (ap unconditional_in at) ∙ sym c.is_unconditional.ensures ∙ c.if-is_unconditional.true)

@@ -1,8 +1,7 @@
 use Rattle.std.proofs.Common.{◌∙◌, refl, sym, ap, subst, ℕ, ◌<◌, ◌≤◌, length, is_some, lit<}
 use std.Path.{fun_ext}
-use Rattle.pr_grammar.specs.OutLists.{list_of}
 use Rattle.pr_model.specs.Limits.{LIMIT}
-use Rattle.pr_model.specs.Commands.{asked}
+use Rattle.pr_table.specs.Told.{requested}
 use Rattle.pr_model.proofs.Reaching.{acted_reaches}
 use Rattle.pr_table.specs.Tables.{standing_of, removed_of}
 use Rattle.pr_core.specs.Seats.{seat_of, owner_in}
@@ -11,53 +10,53 @@ use Rattle.pr_core.proofs.state.State.reserve_out.Goals as goal
 
 pub tell-requires-clause-stay : goal.tell-requires-clause-stay
 tell-requires-clause-stay c =
-    let does = does_here c.args.self.now c.args.nexus c.args.action c.in-Ok.list c.args.sent.now _ _ _ c.requires.list (sym c.read_out_list.ensures ∙ c.in-Ok.is) c.in-Good.ensures.does in
-    λ code is. (acted_reaches LIMIT (standing_of c.args.self.now.table) c.args.nexus (asked c.args.action.action c.args.action.scope c.args.action.kind (list_of c.args.sent.now))).stay_code code (sym does.tells.3 ∙ is)
+    let does = does_here c.args.self.now c.args.nexus c.args.request.now c.args.list.now _ _ _ c.in-Good.ensures.does in
+    λ code is. (acted_reaches LIMIT (standing_of c.args.self.now.table) c.args.nexus (requested c.args.request.now c.args.list.now)).stay_code code (sym does.tells.3 ∙ is)
 
 pub tell-requires-clause-gone : goal.tell-requires-clause-gone
 tell-requires-clause-gone c =
-    let does = does_here c.args.self.now c.args.nexus c.args.action c.in-Ok.list c.args.sent.now _ _ _ c.requires.list (sym c.read_out_list.ensures ∙ c.in-Ok.is) c.in-Good.ensures.does in
-    λ code is. (acted_reaches LIMIT (standing_of c.args.self.now.table) c.args.nexus (asked c.args.action.action c.args.action.scope c.args.action.kind (list_of c.args.sent.now))).removed_code code (sym does.tells.2 ∙ is)
+    let does = does_here c.args.self.now c.args.nexus c.args.request.now c.args.list.now _ _ _ c.in-Good.ensures.does in
+    λ code is. (acted_reaches LIMIT (standing_of c.args.self.now.table) c.args.nexus (requested c.args.request.now c.args.list.now)).removed_code code (sym does.tells.2 ∙ is)
 
 pub invariant_of-self : goal.invariant_of-self
 invariant_of-self c =
-    let does = does_here c.args.self.now c.args.nexus c.args.action c.in-Ok.list c.args.sent.now _ _ _ c.requires.list (sym c.read_out_list.ensures ∙ c.in-Ok.is) c.in-Good.ensures.does in
-    let served : Served c.args.self.now c.args.nexus (asked c.args.action.action c.args.action.scope c.args.action.kind (list_of c.args.sent.now)) (standing_of c.act.new.self) (removed_of c.act.new.self) = record { standing_is = does.standing; gone_is = does.removed; caller = c.requires.known } in
+    let does = does_here c.args.self.now c.args.nexus c.args.request.now c.args.list.now _ _ _ c.in-Good.ensures.does in
+    let served : Served c.args.self.now c.args.nexus (requested c.args.request.now c.args.list.now) (standing_of c.serve.new.self) (removed_of c.serve.new.self) = record { standing_is = does.standing; gone_is = does.removed; caller = c.requires.known } in
     record {
-      limit = c.act.ensures.limit ∙ c.args.self.now.limit;
-      within = subst (λ (k : ℕ). length (standing_of c.act.new.self).pairs ≤ k) (c.act.ensures.limit ∙ c.args.self.now.limit) c.act.ensures.within;
+      limit = c.serve.ensures.limit ∙ c.args.self.now.limit;
+      within = subst (λ (k : ℕ). length (standing_of c.serve.new.self).pairs ≤ k) (c.serve.ensures.limit ∙ c.args.self.now.limit) c.serve.ensures.within;
       seated = λ n is.
           ap (λ f. is_some (f n)) c.tell.ensures.seat ∙ some_told _ (seat_of c.args.self.now.seats n)
-          ∙ seated_still c.args.self.now c.args.nexus (asked c.args.action.action c.args.action.scope c.args.action.kind (list_of c.args.sent.now)) (standing_of c.act.new.self) (removed_of c.act.new.self) served n is;
+          ∙ seated_still c.args.self.now c.args.nexus (requested c.args.request.now c.args.list.now) (standing_of c.serve.new.self) (removed_of c.serve.new.self) served n is;
     }
 
 pub returns-in-Good-clause-reserves : goal.returns-in-Good-clause-reserves
 returns-in-Good-clause-reserves c =
-    let o = asked c.args.action.action c.args.action.scope c.args.action.kind (list_of c.args.sent.now) in
-    let does = does_here c.args.self.now c.args.nexus c.args.action c.in-Ok.list c.args.sent.now _ _ _ c.requires.list (sym c.read_out_list.ensures ∙ c.in-Ok.is) c.in-Good.ensures.does in
-    let served : Served c.args.self.now c.args.nexus (asked c.args.action.action c.args.action.scope c.args.action.kind (list_of c.args.sent.now)) (standing_of c.act.new.self) (removed_of c.act.new.self) = record { standing_is = does.standing; gone_is = does.removed; caller = c.requires.known } in
+    let o = requested c.args.request.now c.args.list.now in
+    let does = does_here c.args.self.now c.args.nexus c.args.request.now c.args.list.now _ _ _ c.in-Good.ensures.does in
+    let served : Served c.args.self.now c.args.nexus (requested c.args.request.now c.args.list.now) (standing_of c.serve.new.self) (removed_of c.serve.new.self) = record { standing_is = does.standing; gone_is = does.removed; caller = c.requires.known } in
     reserves_good c.args.self.now _ c.args.nexus o c.good.result does.standing
-    (tells_by c.args.self.now (seat_of c.tell.new.self) c.args.nexus o (standing_of c.act.new.self) (removed_of c.act.new.self) c.in-Good.change.stay_code c.in-Good.change.removed_code served does.tells.3 does.tells.2 c.tell.ensures.seat)
+    (tells_by c.args.self.now (seat_of c.tell.new.self) c.args.nexus o (standing_of c.serve.new.self) (removed_of c.serve.new.self) c.in-Good.change.stay_code c.in-Good.change.removed_code served does.tells.3 does.tells.2 c.tell.ensures.seat)
     c.tell.ensures.count does.tells.0 c.good.ensures
 
 pub returns-in-Good-clause-owner : goal.returns-in-Good-clause-owner
 returns-in-Good-clause-owner c =
-    fun_ext (λ n. ap (λ f. owner_in (f n)) c.tell.ensures.seat ∙ told_owner c.args.nexus (standing_of c.act.new.self).pairs c.in-Good.change.stay_code (removed_of c.act.new.self) c.in-Good.change.removed_code (seat_of c.args.self.now.seats n))
+    fun_ext (λ n. ap (λ f. owner_in (f n)) c.tell.ensures.seat ∙ told_owner c.args.nexus (standing_of c.serve.new.self).pairs c.in-Good.change.stay_code (removed_of c.serve.new.self) c.in-Good.change.removed_code (seat_of c.args.self.now.seats n))
 
 pub returns-in-Conflict-clause-reserves : goal.returns-in-Conflict-clause-reserves
 returns-in-Conflict-clause-reserves c =
-    let o = asked c.args.action.action c.args.action.scope c.args.action.kind (list_of c.args.sent.now) in
-    let does = does_here c.args.self.now c.args.nexus c.args.action c.in-Ok.list c.args.sent.now _ _ _ c.requires.list (sym c.read_out_list.ensures ∙ c.in-Ok.is) c.in-Conflict.ensures.does in
+    let o = requested c.args.request.now c.args.list.now in
+    let does = does_here c.args.self.now c.args.nexus c.args.request.now c.args.list.now _ _ _ c.in-Conflict.ensures.does in
     reserves_conflict c.args.self.now _ c.args.nexus o c.conflict.result (sym c.in-Conflict.ensures.keeps) refl does.tells c.conflict.ensures
 
 pub returns-in-Bad-clause-reserves : goal.returns-in-Bad-clause-reserves
 returns-in-Bad-clause-reserves c =
-    let o = asked c.args.action.action c.args.action.scope c.args.action.kind (list_of c.args.sent.now) in
-    let does = does_here c.args.self.now c.args.nexus c.args.action c.in-Ok.list c.args.sent.now _ _ _ c.requires.list (sym c.read_out_list.ensures ∙ c.in-Ok.is) c.in-Bad.ensures.does in
+    let o = requested c.args.request.now c.args.list.now in
+    let does = does_here c.args.self.now c.args.nexus c.args.request.now c.args.list.now _ _ _ c.in-Bad.ensures.does in
     reserves_bad c.args.self.now _ c.args.nexus o c.in-Bad.code _ (sym c.in-Bad.ensures.keeps) refl does.tells c.checking.ensures.out
 
 pub returns-in-Bad-clause-proper : goal.returns-in-Bad-clause-proper
 returns-in-Bad-clause-proper c =
-    let does = does_here c.args.self.now c.args.nexus c.args.action c.in-Ok.list c.args.sent.now _ _ _ c.requires.list (sym c.read_out_list.ensures ∙ c.in-Ok.is) c.in-Bad.ensures.does in
-    let five = (acted_reaches LIMIT (standing_of c.args.self.now.table) c.args.nexus (asked c.args.action.action c.args.action.scope c.args.action.kind (list_of c.args.sent.now))).refusal c.in-Bad.code does.tells in
+    let does = does_here c.args.self.now c.args.nexus c.args.request.now c.args.list.now _ _ _ c.in-Bad.ensures.does in
+    let five = (acted_reaches LIMIT (standing_of c.args.self.now.table) c.args.nexus (requested c.args.request.now c.args.list.now)).refusal c.in-Bad.code does.tells in
     c.checking.ensures.proper (subst (λ (k : ℕ). k < 16) (sym five) (lit< tt))

@@ -1,6 +1,6 @@
-use Rattle.std.proofs.Common.{sym, subst, take}
-use Rattle.pr_grammar.specs.declared.cdb.Command.{Command}
-use Rattle.pr_grammar.specs.declared.cdb.Command.TheVariants.{RequestSense}
+use Rattle.std.proofs.Common.{sym, subst}
+use Rattle.pr_core.specs.declared.admitted.Admitted.{Admitted}
+use Rattle.pr_core.specs.declared.admitted.Admitted.TheVariants.{RequestSense}
 use Rattle.pr_core.specs.declared.answers.CommandOut.{CommandOut}
 use Rattle.pr_core.specs.Admits.{Serves}
 use Rattle.pr_core.proofs.Admitting.{serves_sense, serves_reserve}
@@ -8,11 +8,11 @@ use Rattle.pr_core.proofs.state.State.serve.Goals as goal
 
 pub returns-in-RequestSense-clause-serves : goal.returns-in-RequestSense-clause-serves
 returns-in-RequestSense-clause-serves c =
-    subst (λ (k : Command). Serves c.args.self.now c.sense_code-code.new.self c.args.nexus c.args.lun k (take c.args.out_len c.args.buf.now) c.good-in-RequestSense.result c.write_sense.new.buf) (sym c.in-RequestSense.is)
-    (subst (λ (r : CommandOut). Serves c.args.self.now c.sense_code-code.new.self c.args.nexus c.args.lun (RequestSense c.in-RequestSense.descriptor c.in-RequestSense.allocation) (take c.args.out_len c.args.buf.now) r c.write_sense.new.buf) (sym c.good-in-RequestSense.ensures)
-    (serves_sense c.args.self.now c.sense_code-code.new.self c.args.nexus c.args.lun c.in-RequestSense.descriptor c.in-RequestSense.allocation (take c.args.out_len c.args.buf.now) c.write_sense.result c.write_sense.new.buf c.sense_code-code.result c.sense_code-code.ensures.senses c.write_sense.ensures.bytes))
+    subst (λ (a : Admitted). Serves c.args.self.now c.sense_code-code.new.self c.args.nexus c.args.lun a c.good-in-RequestSense.result c.write_sense.new.buf) (sym c.in-RequestSense.is)
+    (subst (λ (r : CommandOut). Serves c.args.self.now c.sense_code-code.new.self c.args.nexus c.args.lun (RequestSense c.in-RequestSense.descriptor c.in-RequestSense.allocation) r c.write_sense.new.buf) (sym c.good-in-RequestSense.ensures)
+    (serves_sense c.args.self.now c.sense_code-code.new.self c.args.nexus c.args.lun c.in-RequestSense.descriptor c.in-RequestSense.allocation c.write_sense.result c.write_sense.new.buf c.sense_code-code.result c.sense_code-code.ensures.senses c.write_sense.ensures.bytes))
 
 pub returns-in-ReserveOut-clause-serves : goal.returns-in-ReserveOut-clause-serves
 returns-in-ReserveOut-clause-serves c =
-    subst (λ (k : Command). Serves c.args.self.now c.reserve_out.new.self c.args.nexus c.args.lun k (take c.args.out_len c.args.buf.now) c.reserve_out.result c.args.buf.now) (sym c.in-ReserveOut.is)
-    (serves_reserve c.args.self.now c.reserve_out.new.self c.args.nexus c.args.lun c.in-ReserveOut.action c.in-ReserveOut.scope c.in-ReserveOut.kind c.in-ReserveOut.length (take c.args.out_len c.args.buf.now) c.reserve_out.result c.args.buf.now c.reserve_out.ensures.reserves)
+    subst (λ (a : Admitted). Serves c.args.self.now c.reserve_out.new.self c.args.nexus c.args.lun a c.reserve_out.result c.args.buf.now) (sym c.in-ReserveOut.is)
+    (serves_reserve c.args.self.now c.reserve_out.new.self c.args.nexus c.args.lun c.in-ReserveOut.request c.in-ReserveOut.list c.reserve_out.result c.args.buf.now c.reserve_out.ensures.reserves)

@@ -6,4 +6,4 @@ pub returns-clause-entry : goal.returns-clause-entry
 returns-clause-entry g c = extends_one _ _ _ refl refl c.login.ensures.enters
 
 pub returns-clause-refused : goal.returns-clause-refused
-returns-clause-refused g c refused = same_core c.args.self.now _ c.self-1.given.0 (c.login.ensures.refused refused)
+returns-clause-refused g c refused = same_core c.args.self.now _ _ (c.login.ensures.refused refused)

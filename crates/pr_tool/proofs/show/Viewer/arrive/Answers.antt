@@ -8,7 +8,7 @@ use Rattle.pr_grammar.proofs.Framings.{short_most}
 use Rattle.pr_link.specs.Streams.{Stream, frame_of}
 use Rattle.pr_link.specs.Deframer.{stream_of, held_of}
 use Rattle.pr_tool.specs.declared.exit.Exit.TheVariants.{Done}
-use Rattle.pr_tool.proofs.Showings.{going_need, going_frame, bad_stands, frame_fault, four_lack, last_bad, ends_text, ends_unread, ends_unwritten, not_read, not_write, same_exit, piece_size}
+use Rattle.pr_tool.proofs.Showings.{going_need, going_frame, bad_stands, frame_fault, four_lack, last_bad, ends_text, ends_unread, ends_counted, not_read, not_write, same_exit, piece_size}
 use Rattle.pr_tool.proofs.show.Viewer.arrive.Goals as goal
 
 pub next_in-requires-clause-room : goal.next_in-requires-clause-room
@@ -61,8 +61,8 @@ returns-in-Bad-clause-steps g c budget ra rb rc wa goes took =
 pub returns-in-Bad-clause-read : goal.returns-in-Bad-clause-read
 returns-in-Bad-clause-read g c is = ends_unread Done c.stop.result _ _ _ _ _ c.stop.ensures.ends not_read (same_exit _ _ is)
 
-pub returns-in-Bad-clause-write : goal.returns-in-Bad-clause-write
-returns-in-Bad-clause-write g c is = ends_unwritten Done c.stop.result _ _ _ _ _ c.stop.ensures.ends not_write (same_exit _ _ is)
+pub returns-in-Bad-clause-faults : goal.returns-in-Bad-clause-faults
+returns-in-Bad-clause-faults g c = ends_counted Done c.stop.result _ _ _ _ _ c.stop.ensures.ends not_write
 
 pub returns-in-Ok-clause-steps : goal.returns-in-Ok-clause-steps
 returns-in-Ok-clause-steps g c budget ra rb rc wa goes took =

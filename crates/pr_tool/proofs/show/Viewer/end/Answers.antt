@@ -1,7 +1,7 @@
 use Rattle.std.proofs.Common.{◌∙◌, sym}
 use Rattle.pr_link.specs.Deframer.{held_of}
 use Rattle.pr_tool.specs.declared.exit.Exit.TheVariants.{Done}
-use Rattle.pr_tool.proofs.Showings.{last_end, last_cut, ends_text, ends_unread, ends_unwritten, not_read, not_write}
+use Rattle.pr_tool.proofs.Showings.{last_end, last_cut, ends_text, ends_unread, ends_counted, not_read, not_write}
 use Rattle.pr_tool.proofs.show.Viewer.end.Goals as goal
 
 pub returns-then-held-eq0-clause-ends : goal.returns-then-held-eq0-clause-ends
@@ -17,11 +17,11 @@ returns-clause-ends g c fs lacks counted placed =
 pub returns-then-held-eq0-clause-read : goal.returns-then-held-eq0-clause-read
 returns-then-held-eq0-clause-read g c = ends_unread Done c.stop.result _ _ _ _ _ c.stop.ensures.ends not_read
 
-pub returns-then-held-eq0-clause-write : goal.returns-then-held-eq0-clause-write
-returns-then-held-eq0-clause-write g c = ends_unwritten Done c.stop.result _ _ _ _ _ c.stop.ensures.ends not_write
+pub returns-then-held-eq0-clause-faults : goal.returns-then-held-eq0-clause-faults
+returns-then-held-eq0-clause-faults g c = ends_counted Done c.stop.result _ _ _ _ _ c.stop.ensures.ends not_write
 
 pub returns-clause-read : goal.returns-clause-read
 returns-clause-read g c = ends_unread Done c.stop-2.result _ _ _ _ _ c.stop-2.ensures.ends not_read
 
-pub returns-clause-write : goal.returns-clause-write
-returns-clause-write g c = ends_unwritten Done c.stop-2.result _ _ _ _ _ c.stop-2.ensures.ends not_write
+pub returns-clause-faults : goal.returns-clause-faults
+returns-clause-faults g c = ends_counted Done c.stop-2.result _ _ _ _ _ c.stop-2.ensures.ends not_write
