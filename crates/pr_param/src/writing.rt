@@ -1,7 +1,9 @@
-ghost use Rattle.std.specs.Prelude.{◌≡◌, ◌≤◌, ◌+◌, ◌∷◌, [], ◌++◌, ◌<◌, ◌^◌, Ok, length, take, drop, min};
+ghost use Rattle.std.specs.Prelude.{◌≡◌, ◌≤◌, ◌+◌, ◌∷◌, [], ◌++◌, ◌<◌, ◌^◌, ℕ, Ok, Some, slice_get, length, take, drop, min};
 ghost use Rattle.std.specs.Int.{w32, w64, to_be_bytes};
 ghost use Rattle.pr_grammar.specs.InReplies.{FitsPair, read_keys, read_reservation, read_capabilities, read_full, listed_keys, told_reservation, told_capabilities, listed_entries, keys_reply, reservation_reply, capabilities_reply, full_reply, held_bytes, key_at as spec_key_at, descriptor as spec_descriptor, holds as spec_holds, type_byte as spec_held_code};
 ghost use Rattle.pr_grammar.specs.Cdbs.{bit};
+ghost use Rattle.pr_grammar.specs.Standings.{kind_of, holder_of, is_holder};
+ghost use Rattle.pr_words.specs.declared.nexus.Pair.{Pair};
 ghost use Rattle.pr_param.specs.Fits.{FitKeys, FitFields, FitsHeld};
 
 use crate::put::{put, put_head};
@@ -53,13 +55,15 @@ pub fn write_capabilities<R: Registrants>(from: &R, allocation: usize, out: &mut
 }
 
 /// Writes the data of READ FULL STATUS (SPC-4), as `write_keys` does its own: a descriptor of 48 bytes for each
-/// registration, with the initiator's name in the SAS layout of a TransportID.
+/// registration, with the initiator's name in the SAS layout of a TransportID. R_HOLDER is set of those
+/// that are reservation holders.
 pub fn write_full<R: Registrants>(from: &R, allocation: usize, out: &mut [u8]) -> usize
     requires count { length (R.standing from.now).pairs ≤ 65536 }
     requires room { min allocation (length (full_reply (R.standing from.now))) ≤ length out.old }
     ensures len { result ≡ min allocation (length (full_reply (R.standing from.now))) }
     ensures written { take result out.new ≡ take result (full_reply (R.standing from.now)) }
     ensures rest { drop result out.new ≡ drop result out.old }
+    ensures holders { (i : ℕ) (p : Pair) → slice_get (R.standing from.now).pairs i ≡ Some p → spec_holds (kind_of (R.standing from.now).reservation) (holder_of (R.standing from.now).reservation) p.nexus ≡ is_holder (R.standing from.now) p.nexus }
     ensures reads_back { length (full_reply (R.standing from.now)) ≤ allocation → read_full (take result out.new) ≡ Ok (listed_entries (R.standing from.now)) }
 {
     let len = allocation.min(full_length(from));
