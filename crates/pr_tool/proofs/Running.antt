@@ -1,13 +1,12 @@
 -- Turns and records that were run with a core.
-use Rattle.std.proofs.Common.{◌≡◌, ℕ, suc, zero, ◌+◌, ◌-◌, ◌≤◌, ◌<◌, List, [], ◌++◌, length, take, drop, min, Option, refl, sym, ap, ◌∙◌, append_assoc, subst, arith}
-use Rattle.std.proofs.lemmas.List.{append-nil, take-append-drop, length-append, length-take, length-drop, drop-drop, drop_all, take_all}
+use Rattle.std.proofs.Common.{◌≡◌, ℕ, suc, zero, ◌+◌, ◌-◌, ◌≤◌, ◌<◌, List, [], ◌++◌, length, take, drop, min, refl, sym, ap, ◌∙◌, subst, arith}
+use Rattle.std.proofs.lemmas.List.{take-append-drop, length-append, length-take, length-drop, drop-drop, drop_all, take_all}
 use Rattle.pr_io.specs.Streams.{Put, PutSome}
 use Rattle.pr_io.specs.Told.{ToldSink}
 use Rattle.pr_io.proofs.Pieces.{put_more, put_nothing}
 use Rattle.pr_grammar.specs.Outputs.{output_of}
 use Rattle.pr_grammar.specs.Schedules.{Arrival}
 use Rattle.pr_model.specs.Limits.{HELD}
-use Rattle.pr_model.specs.Entries.{History}
 use Rattle.pr_model.specs.Lanes.{Lane, Phase, Fresh, In, Dead, fresh, arrived, turn}
 use Rattle.pr_model.specs.Runs.{Deed, deed, TakesTurn, TakesTurns, CutsTurn, RunsRecord, CutsRecord, closing, Closes}
 use Rattle.pr_model.proofs.Overflow.{MadeRoom, Has_died, Has_room, room_made, takes_more, turns-append, arrived-append, arrived-nil}

@@ -1,5 +1,5 @@
 -- What one record of a schedule did, and why a run stops.
-use Rattle.std.specs.Prelude.{◌≡◌, ℕ, ◌≤◌, List, [], length, Result, Ok, Err}
+use Rattle.std.specs.Prelude.{◌≡◌, ℕ, ◌≤◌, List, length, Result, Ok, Err}
 use Rattle.pr_io.specs.Streams.{Took}
 use Rattle.pr_io.specs.Told.{ToldStreams, NoneFailed, SinkFailed}
 use Rattle.pr_grammar.specs.Schedules.{Record, IsRecord, spelled_record}

@@ -1,4 +1,4 @@
-use Rattle.std.proofs.Common.{◌≡◌, ℕ, List, [], take, sym, ap, subst}
+use Rattle.std.proofs.Common.{◌≡◌, take, sym, ap, subst}
 use Rattle.std.specs.Prelude.{OnOk, OnErr}
 use Rattle.pr_io.proofs.Sent.{on_err}
 use Rattle.pr_grammar.specs.Schedules.{Record, Arrival, Step_of, Close_of}

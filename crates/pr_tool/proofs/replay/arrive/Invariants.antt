@@ -1,4 +1,4 @@
-use Rattle.std.proofs.Common.{◌≡◌, ◌≤◌, ◌<◌, ◌-◌, [], length, drop}
+use Rattle.std.proofs.Common.{◌≡◌, ◌≤◌, ◌<◌, ◌-◌, length, drop}
 use Rattle.pr_model.specs.Limits.{HELD}
 use Rattle.pr_model.specs.Lanes.{Dead, arrived}
 use Rattle.pr_core.specs.View.{KeepsOthers}

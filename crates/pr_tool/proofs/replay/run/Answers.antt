@@ -1,4 +1,4 @@
-use Rattle.std.proofs.Common.{◌≡◌, ◌+◌, ◌-◌, ◌≤◌, ℕ, length, refl, sym, ◌∙◌, subst, arith}
+use Rattle.std.proofs.Common.{◌-◌, ℕ, length, refl, sym, ◌∙◌, subst, arith}
 use Rattle.pr_core.specs.View.{blocks_of}
 use Rattle.pr_io.specs.Told.{told_streams}
 use Rattle.pr_tool.specs.declared.exit.Exit.{Exit}
