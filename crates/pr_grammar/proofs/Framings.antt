@@ -7,7 +7,7 @@ use Rattle.std.proofs.lemmas.Bool.{le-ltb, lt-ltb, ltb-false, ltb-true, or_parts
 use Rattle.std.proofs.lemmas.List.{take-append-le, drop-append-le, length-append, length-take-le, length-drop, drop_all}
 use Rattle.pr_words.specs.Fields.{number32_at}
 use Rattle.pr_words.specs.declared.nexus.Side.{Side}
-use Rattle.pr_grammar.specs.Frames.{Frame, Front, Short, Broken, Whole, front, sized, checked, frame_size}
+use Rattle.pr_grammar.specs.Frames.{Frame, Front, Lacking, Broken, Whole, front, sized, checked, frame_size}
 use Rattle.pr_grammar.specs.Shows.{AreFrames, HasBroken, JustBroken, size_of_all}
 use Rattle.pr_grammar.proofs.Fronts.{grown, IsThere, checked_more, checked_there}
 use Rattle.pr_grammar.proofs.Spellings.{Found, found}
@@ -62,35 +62,35 @@ Lacks xs k =
     ((length xs < 4) × (k ≡ 4 - length xs))
     ⊎ ((4 ≤ length xs) × (8 ≤ number32_at xs 0) × (number32_at xs 0 ≤ 524316) × (length xs < 4 + number32_at xs 0) × (k ≡ 4 + number32_at xs 0 - length xs))
 
-short_pass : (a b : Bool) (r n k : ℕ) (there : Front) → IsThere there → cond a (Broken r) (cond b (Short n) there) ≡ Short k → (a ≡ false) × (b ≡ true) × (k ≡ n)
+short_pass : (a b : Bool) (r n k : ℕ) (there : Front) → IsThere there → cond a (Broken r) (cond b (Lacking n) there) ≡ Lacking k → (a ≡ false) × (b ≡ true) × (k ≡ n)
 short_pass true b r n k there is e = absurd cc
 short_pass false true r n k there is e = (refl, refl, cc)
 short_pass false false r n k there is e = absurd (subst IsThere e is)
 
-lacks : (side : Side) (xs : List ℕ) (k : ℕ) → front side xs ≡ Short k → Lacks xs k
+lacks : (side : Side) (xs : List ℕ) (k : ℕ) → front side xs ≡ Lacking k → Lacks xs k
 unfolding front
 lacks side xs k e =
     elim (cases_lt (length xs) 4) [
       | inl few ↦ (
           let short : ltb (length xs) 4 ≡ true = lt-ltb _ _ few in
-          let is : Short (4 - length xs) ≡ Short k = rw short at e in
+          let is : Lacking (4 - length xs) ≡ Lacking k = rw short at e in
           inl (few, cc)
           )
       | inr four ↦ (
           let one : ltb (length xs) 4 ≡ false = le-ltb _ _ four in
           let len : ℕ = number32_at xs 0 in
-          let is : sized side len xs ≡ Short k = rw one at e in
+          let is : sized side len xs ≡ Lacking k = rw one at e in
           let parts = short_pass (ltb len 8 || ltb 524316 len) (ltb (length xs) (4 + len)) 1 (4 + len - length xs) k (checked side (take len (drop 4 xs)) (drop (4 + len) xs)) (checked_there side (take len (drop 4 xs)) (drop (4 + len) xs)) is in
           let range = or_parts _ _ parts.0 in
           inr (four, ltb-false len 8 range.0, ltb-false 524316 len range.1, ltb-true _ _ parts.1, parts.2)
           )
     ]
 
-short_few : (side : Side) (xs : List ℕ) → length xs < 4 → front side xs ≡ Short (4 - length xs)
+short_few : (side : Side) (xs : List ℕ) → length xs < 4 → front side xs ≡ Lacking (4 - length xs)
 unfolding front
 short_few side xs few = let short : ltb (length xs) 4 ≡ true = lt-ltb _ _ few in rw short refl
 
-short_sized : (side : Side) (xs : List ℕ) (len : ℕ) → len ≡ number32_at xs 0 → 4 ≤ length xs → 8 ≤ len → len ≤ 524316 → length xs < 4 + len → front side xs ≡ Short (4 + len - length xs)
+short_sized : (side : Side) (xs : List ℕ) (len : ℕ) → len ≡ number32_at xs 0 → 4 ≤ length xs → 8 ≤ len → len ≤ 524316 → length xs < 4 + len → front side xs ≡ Lacking (4 + len - length xs)
 unfolding front
 short_sized side xs len is four low high less =
     let one : ltb (length xs) 4 ≡ false = le-ltb _ _ four in
@@ -99,26 +99,26 @@ short_sized side xs len is four low high less =
     let short : ltb (length xs) (4 + len) ≡ true = lt-ltb _ _ less in
     rw (one, ← is, two, three, short) refl
 
-pub front_none : (side : Side) → front side [] ≡ Short 4
+pub front_none : (side : Side) → front side [] ≡ Lacking 4
 front_none side = short_few side [] (lit< tt)
 
 -- where so many bytes lack, fewer leave the rest of them lacking
-pub short_more : (side : Side) (xs ys : List ℕ) (k : ℕ) → front side xs ≡ Short k → length ys < k → front side (xs ++ ys) ≡ Short (k - length ys)
+pub short_more : (side : Side) (xs ys : List ℕ) (k : ℕ) → front side xs ≡ Lacking k → length ys < k → front side (xs ++ ys) ≡ Lacking (k - length ys)
 short_more side xs ys k e less =
     elim (lacks side xs k e) [
       | inl few ↦ (
           let left : 4 - length (xs ++ ys) ≡ k - length ys = omega (arith, length-append xs ys, few.0, few.1) in
-          short_few side (xs ++ ys) (omega (arith, length-append xs ys, few.0, few.1)) ∙ ap Short left
+          short_few side (xs ++ ys) (omega (arith, length-append xs ys, few.0, few.1)) ∙ ap Lacking left
           )
       | inr sized ↦ (
           let len : ℕ = number32_at xs 0 in
           let left : 4 + len - length (xs ++ ys) ≡ k - length ys = omega (arith, length-append xs ys, sized.3, sized.4) in
-          short_sized side (xs ++ ys) len (sym (same_number xs ys sized.0)) (omega (arith, length-append xs ys, sized.0)) sized.1 sized.2 (omega (arith, length-append xs ys, sized.3, sized.4)) ∙ ap Short left
+          short_sized side (xs ++ ys) len (sym (same_number xs ys sized.0)) (omega (arith, length-append xs ys, sized.0)) sized.1 sized.2 (omega (arith, length-append xs ys, sized.3, sized.4)) ∙ ap Lacking left
           )
     ]
 
 -- where so many bytes lack, no more of them make a frame with nothing behind it
-pub whole_tight : (side : Side) (xs ys : List ℕ) (k : ℕ) (f : Frame) (rest : List ℕ) → front side xs ≡ Short k → length ys ≤ k → front side (xs ++ ys) ≡ Whole f rest → rest ≡ []
+pub whole_tight : (side : Side) (xs ys : List ℕ) (k : ℕ) (f : Frame) (rest : List ℕ) → front side xs ≡ Lacking k → length ys ≤ k → front side (xs ++ ys) ≡ Whole f rest → rest ≡ []
 whole_tight side xs ys k f rest e few whole =
     let here : Found side (xs ++ ys) f rest = found side (xs ++ ys) f rest whole in
     elim (lacks side xs k e) [
@@ -126,10 +126,10 @@ whole_tight side xs ys k f rest e few whole =
       | inr sized ↦ here.left ∙ drop_all (4 + number32_at (xs ++ ys) 0) (xs ++ ys) (omega (arith, length-append xs ys, same_number xs ys sized.0, sized.3, sized.4))
     ]
 
-pub short_some : (side : Side) (xs : List ℕ) (k : ℕ) → front side xs ≡ Short k → 0 < k
+pub short_some : (side : Side) (xs : List ℕ) (k : ℕ) → front side xs ≡ Lacking k → 0 < k
 short_some side xs k e = elim (lacks side xs k e) [ inl few ↦ omega (arith, few.0, few.1) | inr sized ↦ omega (arith, sized.3, sized.4) ]
 
-pub short_most : (side : Side) (xs : List ℕ) (k : ℕ) → front side xs ≡ Short k → length xs + k ≤ 524320
+pub short_most : (side : Side) (xs : List ℕ) (k : ℕ) → front side xs ≡ Lacking k → length xs + k ≤ 524320
 short_most side xs k e = elim (lacks side xs k e) [ inl few ↦ omega (arith, few.0, few.1) | inr sized ↦ omega (arith, sized.2, sized.3, sized.4) ]
 
 whole_size : (side : Side) (xs : List ℕ) (f : Frame) (rest : List ℕ) → front side xs ≡ Whole f rest → length xs ≡ frame_size f + length rest
@@ -161,23 +161,23 @@ pub size_one : (fs : List Frame) (f : Frame) → size_of_all (fs ++ f ∷ []) �
 size_one fs f = sum_by_push frame_size fs f
 
 -- bytes that lack more have no broken frame
-by_frames : (side : Side) (bytes : List ℕ) (fs gs : List Frame) (tail other : List ℕ) (k r : ℕ) → AreFrames side bytes fs tail → front side tail ≡ Short k → AreFrames side bytes gs other → front side other ≡ Broken r → ⊥
-by_frames side bytes [] [] tail other k r a short b broken = let no : Short k ≡ Broken r = sym short ∙ ap (front side) (sym a ∙ b) ∙ broken in cc
-by_frames side bytes [] (g ∷ gs) tail other k r a short b broken = let no : Short k ≡ Whole g b.0 = sym short ∙ ap (front side) (sym a) ∙ b.1 in cc
+by_frames : (side : Side) (bytes : List ℕ) (fs gs : List Frame) (tail other : List ℕ) (k r : ℕ) → AreFrames side bytes fs tail → front side tail ≡ Lacking k → AreFrames side bytes gs other → front side other ≡ Broken r → ⊥
+by_frames side bytes [] [] tail other k r a short b broken = let no : Lacking k ≡ Broken r = sym short ∙ ap (front side) (sym a ∙ b) ∙ broken in cc
+by_frames side bytes [] (g ∷ gs) tail other k r a short b broken = let no : Lacking k ≡ Whole g b.0 = sym short ∙ ap (front side) (sym a) ∙ b.1 in cc
 by_frames side bytes (f ∷ fs) [] tail other k r a short b broken = let no : Whole f a.0 ≡ Broken r = sym a.1 ∙ ap (front side) b ∙ broken in cc
 by_frames side bytes (f ∷ fs) (g ∷ gs) tail other k r a short b broken =
     let same : Whole f a.0 ≡ Whole g b.0 = sym a.1 ∙ b.1 in
     let left : b.0 ≡ a.0 = cc in
     by_frames side a.0 fs gs tail other k r a.2 short (subst (λ (w : List ℕ). AreFrames side w gs other) left b.2) broken
 
-pub none_broken : (side : Side) (bytes : List ℕ) (fs : List Frame) (tail : List ℕ) (k : ℕ) → AreFrames side bytes fs tail → front side tail ≡ Short k → HasBroken side bytes → ⊥
+pub none_broken : (side : Side) (bytes : List ℕ) (fs : List Frame) (tail : List ℕ) (k : ℕ) → AreFrames side bytes fs tail → front side tail ≡ Lacking k → HasBroken side bytes → ⊥
 none_broken side bytes fs tail k are short bad = by_frames side bytes fs bad.0 tail bad.1 k bad.2 are short bad.3 bad.4
 
 pub broken_behind : (side : Side) (bytes ys : List ℕ) → HasBroken side bytes → HasBroken side (bytes ++ ys)
 broken_behind side bytes ys bad = (bad.0, bad.1 ++ ys, bad.2, frames_more side bytes ys bad.0 bad.1 bad.3, broken_more side bad.1 ys bad.2 bad.4)
 
 -- where no more bytes came than lacked, the last of them shows the broken frame
-pub just_broken : (side : Side) (bytes piece : List ℕ) (fs : List Frame) (tail : List ℕ) (k : ℕ) → AreFrames side bytes fs tail → front side tail ≡ Short k → length piece ≤ k → 0 < length piece
+pub just_broken : (side : Side) (bytes piece : List ℕ) (fs : List Frame) (tail : List ℕ) (k : ℕ) → AreFrames side bytes fs tail → front side tail ≡ Lacking k → length piece ≤ k → 0 < length piece
     → HasBroken side (bytes ++ piece) → JustBroken side (bytes ++ piece)
 just_broken side bytes piece fs tail k are short most some bad =
     record {

@@ -5,11 +5,11 @@ use Rattle.std.proofs.lemmas.Bool.{le-ltb, ltb-false}
 use Rattle.std.proofs.lemmas.List.{take-append-le, drop-append-le, length-append, length-drop}
 use Rattle.pr_words.specs.Fields.{number32_at}
 use Rattle.pr_words.specs.declared.nexus.Side.{Side}
-use Rattle.pr_grammar.specs.Frames.{Front, Short, Broken, Whole, front, sized, checked, Frame}
+use Rattle.pr_grammar.specs.Frames.{Front, Lacking, Broken, Whole, front, sized, checked, Frame}
 
 -- the front with more bytes behind it
 abbrev pub grown : Front → List ℕ → Front
-grown (Short k) ys = Short k
+grown (Lacking k) ys = Lacking k
 grown (Broken r) ys = Broken r
 grown (Whole f rest) ys = Whole f (rest ++ ys)
 
@@ -46,7 +46,7 @@ front_more side xs ys long =
 
 -- a front that lacks nothing
 abbrev pub IsThere : Front → Type 0
-IsThere (Short k) = ⊥
+IsThere (Lacking k) = ⊥
 IsThere (Broken r) = Unit {0}
 IsThere (Whole f rest) = Unit {0}
 
@@ -72,5 +72,5 @@ front_there side xs long =
     let one : ltb (length xs) 4 ≡ false = le-ltb _ _ (omega arith) in
     rw one (sized_there side _ xs (number32_at xs 0) refl long)
 
-pub full_front : (side : Side) (xs : List ℕ) → 524320 ≤ length xs → (k : ℕ) → front side xs ≡ Short k → ⊥
+pub full_front : (side : Side) (xs : List ℕ) → 524320 ≤ length xs → (k : ℕ) → front side xs ≡ Lacking k → ⊥
 full_front side xs long k e = subst IsThere e (front_there side xs long)

@@ -9,7 +9,7 @@ use Rattle.std.proofs.lemmas.List.Elements.{All-cons, All-head, All-tail}
 use Rattle.std.proofs.Math.Seq.{take-append-add}
 use Rattle.std.proofs.lemmas.Nat.{from_be_bytes-to_be_bytes_2}
 use Rattle.pr_words.specs.Fields.{number16_at}
-use Rattle.pr_grammar.specs.Schedules.{Record, Arrival, Step_of, Close_of, IsRecord, spelled_record, RecordFront, Partial, Faulty, Entire, can_begin, record_at, record_front, IsUnfinished, Cut, IsWhole, IsBrokenAt, IsLong}
+use Rattle.pr_grammar.specs.Schedules.{Record, Arrival, Step_of, Close_of, IsRecord, spelled_record, RecordFront, Partial, Faulty, Entire, can_begin, record_at, record_front, IsUnfinished, AreRecords, IsWhole, IsBrokenAt, IsLong}
 
 arrival_front : (lanes lane a b : ℕ) (body rest : List ℕ) → from_be_bytes w16 (a ∷ b ∷ []) ≡ length body → lane < lanes
     → record_front lanes (lane ∷ 0 ∷ a ∷ b ∷ (body ++ rest)) ≡ Entire (Arrival lane body) rest
@@ -118,7 +118,7 @@ pub faulty_more : (lanes : ℕ) (bytes more : List ℕ) → record_front lanes b
 faulty_more lanes bytes more fault = front_faulty lanes (bytes ++ more) (faulty_when (can_begin lanes (bytes ++ more)) lanes bytes more refl (faulty_not_begun (can_begin lanes bytes) lanes bytes refl fault))
 
 -- a whole record more before what was cut
-pub cut_more : (lanes : ℕ) (bytes : List ℕ) (r : Record) (records : List Record) (tail : List ℕ) → IsRecord lanes r → Cut lanes bytes records tail → Cut lanes (spelled_record r ++ bytes) (r ∷ records) tail
+pub cut_more : (lanes : ℕ) (bytes : List ℕ) (r : Record) (records : List Record) (tail : List ℕ) → IsRecord lanes r → AreRecords lanes bytes records tail → AreRecords lanes (spelled_record r ++ bytes) (r ∷ records) tail
 cut_more lanes bytes r records tail valid cut =
     record {
       spelling = ap (λ (w : List ℕ). spelled_record r ++ w) cut.spelling ∙ sym (append_assoc (spelled_record r) (flat_map spelled_record records) tail);
@@ -127,15 +127,15 @@ cut_more lanes bytes r records tail valid cut =
     }
 
 -- what stands at the front of bytes that are cut into a record and others
-front_of_cut : (lanes : ℕ) (bytes : List ℕ) (r : Record) (records : List Record) (tail : List ℕ) → Cut lanes bytes (r ∷ records) tail
+front_of_cut : (lanes : ℕ) (bytes : List ℕ) (r : Record) (records : List Record) (tail : List ℕ) → AreRecords lanes bytes (r ∷ records) tail
     → record_front lanes bytes ≡ Entire r (flat_map spelled_record records ++ tail)
 front_of_cut lanes bytes r records tail cut =
     ap (record_front lanes) (cut.spelling ∙ append_assoc (spelled_record r) (flat_map spelled_record records) tail)
     ∙ record_front-spelled lanes r (flat_map spelled_record records ++ tail) (All-head (IsRecord lanes) r records cut.valid)
 
 -- what is left of a cut behind its first record
-cut_less : (lanes : ℕ) (bytes : List ℕ) (r : Record) (records : List Record) (tail : List ℕ) → Cut lanes bytes (r ∷ records) tail
-    → Cut lanes (flat_map spelled_record records ++ tail) records tail
+cut_less : (lanes : ℕ) (bytes : List ℕ) (r : Record) (records : List Record) (tail : List ℕ) → AreRecords lanes bytes (r ∷ records) tail
+    → AreRecords lanes (flat_map spelled_record records ++ tail) records tail
 cut_less lanes bytes r records tail cut = record { spelling = refl; valid = All-tail (IsRecord lanes) r records cut.valid; unfinished = cut.unfinished }
 
 unfinished_entire : (front : RecordFront) (r : Record) (rest : List ℕ) → IsUnfinished front → front ≡ Entire r rest → ⊥
@@ -147,7 +147,7 @@ same_first : (a b : Record) (s t : List ℕ) → Entire a s ≡ Entire b t → (
 same_first a b s t e = (cc, cc)
 
 -- bytes are cut in one way
-pub cut_once : (lanes : ℕ) (bytes : List ℕ) (records others : List Record) (tail end : List ℕ) → Cut lanes bytes records tail → Cut lanes bytes others end → (records ≡ others) × (tail ≡ end)
+pub cut_once : (lanes : ℕ) (bytes : List ℕ) (records others : List Record) (tail end : List ℕ) → AreRecords lanes bytes records tail → AreRecords lanes bytes others end → (records ≡ others) × (tail ≡ end)
 cut_once lanes bytes [] [] tail end one two = (refl, sym one.spelling ∙ two.spelling)
 cut_once lanes bytes [] (r ∷ others) tail end one two =
     absurd (unfinished_entire _ r _ one.unfinished (ap (record_front lanes) (sym one.spelling) ∙ front_of_cut lanes bytes r others end two))
@@ -156,7 +156,7 @@ cut_once lanes bytes (r ∷ records) [] tail end one two =
 cut_once lanes bytes (r ∷ records) (q ∷ others) tail end one two =
     let same = same_first r q _ _ (sym (front_of_cut lanes bytes r records tail one) ∙ front_of_cut lanes bytes q others end two) in
     let rest = cut_once lanes (flat_map spelled_record records ++ tail) records others tail end (cut_less lanes bytes r records tail one)
-    (subst (λ (w : List ℕ). Cut lanes w others end) (sym same.1) (cut_less lanes bytes q others end two)) in
+    (subst (λ (w : List ℕ). AreRecords lanes w others end) (sym same.1) (cut_less lanes bytes q others end two)) in
     (cc, rest.1)
 
 -- a schedule of one lane or more ends in one way
@@ -168,7 +168,7 @@ faulty_nothing lanes some is = let known : ltb 0 lanes ≡ true = lt-ltb 0 lanes
 pub not_whole_and_broken : (lanes budget place : ℕ) (all : List ℕ) → 0 < lanes → IsWhole lanes budget all → IsBrokenAt lanes budget all place → ⊥
 not_whole_and_broken lanes budget place all some whole broken =
     let is : take budget all ≡ all = take_all budget all whole.0 in
-    let same = cut_once lanes all whole.1.0 broken.0 [] broken.1 whole.1.1 (subst (λ (w : List ℕ). Cut lanes w broken.0 broken.1) is broken.2) in
+    let same = cut_once lanes all whole.1.0 broken.0 [] broken.1 whole.1.1 (subst (λ (w : List ℕ). AreRecords lanes w broken.0 broken.1) is broken.2) in
     elim broken.4 [
       | inl fault ↦ faulty_nothing lanes some (ap (record_front lanes) same.1 ∙ fault)
       | inr short ↦ absurd (omega (arith, ap length same.1, short.1))
@@ -208,13 +208,13 @@ pub whole_more : (lanes budget : ℕ) (r : Record) (later all : List ℕ) → St
 whole_more lanes budget r later all first whole =
     let fits = first.fits in
     let size : length all ≡ length (spelled_record r) + length later = ap length first.spelling ∙ length-append (spelled_record r) later in
-    (omega (arith, size, fits, whole.0), (r ∷ whole.1.0, subst (λ (w : List ℕ). Cut lanes w (r ∷ whole.1.0) []) (sym first.spelling) (cut_more lanes later r whole.1.0 [] first.valid whole.1.1)))
+    (omega (arith, size, fits, whole.0), (r ∷ whole.1.0, subst (λ (w : List ℕ). AreRecords lanes w (r ∷ whole.1.0) []) (sym first.spelling) (cut_more lanes later r whole.1.0 [] first.valid whole.1.1)))
 
-cut_first : (lanes budget : ℕ) (r : Record) (later all : List ℕ) (records : List Record) (tail : List ℕ) → StandsFirst lanes budget r later all → Cut lanes (take (budget - length (spelled_record r)) later) records tail
-    → Cut lanes (take budget all) (r ∷ records) tail
+cut_first : (lanes budget : ℕ) (r : Record) (later all : List ℕ) (records : List Record) (tail : List ℕ) → StandsFirst lanes budget r later all → AreRecords lanes (take (budget - length (spelled_record r)) later) records tail
+    → AreRecords lanes (take budget all) (r ∷ records) tail
 cut_first lanes budget r later all records tail first cut =
     let is : take budget all ≡ spelled_record r ++ take (budget - length (spelled_record r)) later = ap (take budget) first.spelling ∙ looked_at budget r later first.fits in
-    subst (λ (w : List ℕ). Cut lanes w (r ∷ records) tail) (sym is) (cut_more lanes _ r records tail first.valid cut)
+    subst (λ (w : List ℕ). AreRecords lanes w (r ∷ records) tail) (sym is) (cut_more lanes _ r records tail first.valid cut)
 
 pub broken_more : (lanes budget place : ℕ) (r : Record) (later all : List ℕ) → StandsFirst lanes budget r later all → IsBrokenAt lanes (budget - length (spelled_record r)) later place
     → IsBrokenAt lanes budget all (length (spelled_record r) + place)

@@ -8,7 +8,7 @@ use Rattle.std.proofs.lemmas.List.Elements.{All-take, All-drop, All-get_or}
 use Rattle.std.proofs.lemmas.Nat.{from_be_bytes-to_be_bytes_2, from_be_bytes-to_be_bytes_4, be_bytes_2, be_bytes_4}
 use Rattle.pr_words.specs.Fields.{number32_at, number16_at}
 use Rattle.pr_words.specs.declared.nexus.Side.{Side}
-use Rattle.pr_grammar.specs.Frames.{Front, Short, Broken, Whole, front, sized, checked, is_kind, is_body, frame, Frame, spelled}
+use Rattle.pr_grammar.specs.Frames.{Front, Lacking, Broken, Whole, front, sized, checked, is_kind, is_body, frame, Frame, spelled}
 
 -- what follows the length of the frame at the front
 abbrev pub content_of : List ℕ → List ℕ
@@ -80,12 +80,12 @@ record Sizes (a b : Bool) (there whole : Front) : Type 0 where
   pub count : b ≡ false
   pub same : there ≡ whole
 
-sizes_pass : (a b : Bool) (r k : ℕ) (there : Front) (f : Frame) (rest : List ℕ) → cond a (Broken r) (cond b (Short k) there) ≡ Whole f rest → Sizes a b there (Whole f rest)
+sizes_pass : (a b : Bool) (r k : ℕ) (there : Front) (f : Frame) (rest : List ℕ) → cond a (Broken r) (cond b (Lacking k) there) ≡ Whole f rest → Sizes a b there (Whole f rest)
 sizes_pass true b r k there f rest e = absurd cc
 sizes_pass false true r k there f rest e = absurd cc
 sizes_pass false false r k there f rest e = record { range = refl; count = refl; same = e }
 
-four_held : (a : Bool) (k : ℕ) (there : Front) (f : Frame) (rest : List ℕ) → cond a (Short k) there ≡ Whole f rest → there ≡ Whole f rest
+four_held : (a : Bool) (k : ℕ) (there : Front) (f : Frame) (rest : List ℕ) → cond a (Lacking k) there ≡ Whole f rest → there ≡ Whole f rest
 four_held true k there f rest e = absurd cc
 four_held false k there f rest e = e
 

@@ -25,7 +25,7 @@ frame_size f = 12 + length f.body
 
 -- what stands at the front of a stream: so many bytes lack, or this rule is broken, or a frame and what is behind it
 pub data Front : Type 0 where
-  Short : (lacks : ℕ) → Front
+  Lacking : (lacks : ℕ) → Front
   Broken : (reason : ℕ) → Front
   Whole : (first : Frame) → (rest : List ℕ) → Front
 
@@ -54,8 +54,8 @@ checked side content rest =
 abbrev pub sized : Side → ℕ → List ℕ → Front
 sized side len bytes =
     if nat_lt len 8 || nat_lt 524316 len then Broken 1 else
-    if nat_lt (length bytes) (4 + len) then Short (4 + len - length bytes) else
+    if nat_lt (length bytes) (4 + len) then Lacking (4 + len - length bytes) else
     checked side (take len (drop 4 bytes)) (drop (4 + len) bytes)
 
 unfoldable pub front : Side → List ℕ → Front
-front side bytes = if nat_lt (length bytes) 4 then Short (4 - length bytes) else sized side (number32_at bytes 0) bytes
+front side bytes = if nat_lt (length bytes) 4 then Lacking (4 - length bytes) else sized side (number32_at bytes 0) bytes

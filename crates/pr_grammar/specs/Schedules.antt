@@ -54,7 +54,7 @@ IsUnfinished (Entire first rest) = ⊥
 IsUnfinished _ = Unit {0}
 
 -- bytes are whole records, and then a tail at whose front no whole record stands
-pub record Cut (lanes : ℕ) (bytes : List ℕ) (records : List Record) (tail : List ℕ) : Type 0 where
+pub record AreRecords (lanes : ℕ) (bytes : List ℕ) (records : List Record) (tail : List ℕ) : Type 0 where
   pub spelling : bytes ≡ flat_map spelled_record records ++ tail
   pub valid : All (IsRecord lanes) records
   pub unfinished : IsUnfinished (record_front lanes tail)
@@ -63,16 +63,16 @@ pub record Cut (lanes : ℕ) (bytes : List ℕ) (records : List Record) (tail : 
 
 -- it is whole records to its end
 abbrev pub IsWhole : ℕ → ℕ → List ℕ → Type 0
-IsWhole lanes budget all = (length all ≤ budget) × ((records : List Record) × Cut lanes all records [])
+IsWhole lanes budget all = (length all ≤ budget) × ((records : List Record) × AreRecords lanes all records [])
 
 -- behind its whole records, which end at this place, what is looked at breaks the grammar, or is all there is and ends inside a record
 abbrev pub IsBrokenAt : ℕ → ℕ → List ℕ → ℕ → Type 0
 IsBrokenAt lanes budget all place =
-    (records : List Record) × (tail : List ℕ) × Cut lanes (take budget all) records tail
+    (records : List Record) × (tail : List ℕ) × AreRecords lanes (take budget all) records tail
     × (place ≡ length (flat_map spelled_record records))
     × ((record_front lanes tail ≡ Faulty) ⊎ ((length all ≤ budget) × (0 < length tail)))
 
 -- there is more than is looked at, and what is looked at can be continued
 abbrev pub IsLong : ℕ → ℕ → List ℕ → Type 0
 IsLong lanes budget all =
-    (budget < length all) × ((records : List Record) × (tail : List ℕ) × Cut lanes (take budget all) records tail × (record_front lanes tail ≡ Partial))
+    (budget < length all) × ((records : List Record) × (tail : List ℕ) × AreRecords lanes (take budget all) records tail × (record_front lanes tail ≡ Partial))

@@ -1,7 +1,7 @@
 -- A stream of frames that one side receives (this project's own).
 use Rattle.std.specs.Prelude.{◌≡◌, ℕ, ◌+◌, ◌-◌, ◌%◌, ◌^◌, ◌≤◌, ◌++◌, true, List, [], length, take, min, Option, Some, None, Result, Ok, Err}
 use Rattle.pr_words.specs.declared.nexus.Side.{Side}
-use Rattle.pr_grammar.specs.Frames.{Front, Short, Broken, Whole, front, frame, frame_size, is_body}
+use Rattle.pr_grammar.specs.Frames.{Front, Lacking, Broken, Whole, front, frame, frame_size, is_body}
 use Rattle.pr_grammar.specs.Frames as grammar
 use Rattle.pr_link.specs.declared.frame.Frame.{Frame}
 use Rattle.pr_link.specs.declared.frame.Got.{Got}
@@ -28,15 +28,15 @@ abbrev pub frame_of : Frame → List ℕ → grammar.Frame
 frame_of g body = frame g.kind g.lun g.tag body
 
 -- a frame whose body keeps the rules
-abbrev pub IsProper : Side → Frame → List ℕ → Type 0
-IsProper side g buf = (g.body ≤ 524308) × (is_body side g.kind (take g.body buf) ≡ true)
+abbrev pub IsFormed : Side → Frame → List ℕ → Type 0
+IsFormed side g buf = (g.body ≤ 524308) × (is_body side g.kind (take g.body buf) ≡ true)
 
 -- what is answered by what stands at the front
 abbrev pub GivesAt : Stream → Front → Got → Stream → List ℕ → Type 0
-GivesAt old (Short k) (got.Need n) new buf = (n ≡ k) × (new ≡ old)
+GivesAt old (Lacking k) (got.Need n) new buf = (n ≡ k) × (new ≡ old)
 GivesAt old (Broken r) (got.Bad place reason) new buf = (place ≡ old.place) × (reason ≡ r) × (new ≡ record old { held = []; broken = Some r })
 GivesAt old (Whole f rest) (got.Frame g) new buf =
-    (f ≡ frame_of g (take g.body buf)) × (new ≡ record old { place = (old.place + frame_size f) % 2 ^ 64; held = rest }) × IsProper old.side g buf
+    (f ≡ frame_of g (take g.body buf)) × (new ≡ record old { place = (old.place + frame_size f) % 2 ^ 64; held = rest }) × IsFormed old.side g buf
 GivesAt old _ _ new buf = ⊥
 
 -- what is answered after a broken rule
@@ -56,5 +56,5 @@ Gives old answer new buf = GivesIf old.broken old answer new buf
 -- what a whole frame is found to be
 abbrev pub Checks : Side → Front → Result Frame ℕ → List ℕ → List ℕ → Type 0
 Checks side (Broken r) (Err reason) left buf = reason ≡ r
-Checks side (Whole f rest) (Ok g) left buf = (f ≡ frame_of g (take g.body buf)) × (left ≡ rest) × IsProper side g buf
+Checks side (Whole f rest) (Ok g) left buf = (f ≡ frame_of g (take g.body buf)) × (left ≡ rest) × IsFormed side g buf
 Checks side _ _ left buf = ⊥

@@ -4,7 +4,7 @@ use Rattle.std.proofs.lemmas.List.{append-nil, length-drop}
 use std.Path.{fun_ext}
 use Rattle.pr_words.specs.declared.nexus.Nexus.{Nexus}
 use Rattle.pr_words.specs.declared.nexus.Side.TheVariants.{Target}
-use Rattle.pr_grammar.specs.Frames.{Frame, Front, Short, Broken, Whole, front}
+use Rattle.pr_grammar.specs.Frames.{Frame, Front, Lacking, Broken, Whole, front}
 use Rattle.pr_grammar.specs.Bodies.{login_nexus, login_version, command_cdb, command_data, login_reply}
 use Rattle.pr_words.specs.Fields.{number32_at}
 use Rattle.pr_grammar.proofs.Fronts.{grown, front_more, full_front}
@@ -83,7 +83,7 @@ in_more false true n f rest ys place = refl
 in_more false false n f rest ys place = refl
 
 turn_at_more : (p : Phase) (place : ℕ) (f : Front) (ys : List ℕ) → turn_at p place (grown f ys) ≡ grown_turn (turn_at p place f) ys
-turn_at_more p place (Short k) ys = refl
+turn_at_more p place (Lacking k) ys = refl
 turn_at_more Dead place (Broken r) ys = refl
 turn_at_more Fresh place (Broken r) ys = refl
 turn_at_more (In n) place (Broken r) ys = refl
@@ -92,7 +92,7 @@ turn_at_more Fresh place (Whole f rest) ys = fresh_more (eqb f.kind 1) f rest ys
 turn_at_more (In n) place (Whole f rest) ys = in_more (eqb f.kind 2) (eqb f.kind 3) n f rest ys place
 
 dead_turn : (place : ℕ) (f : Front) → turn_at Dead place f ≡ Idle
-dead_turn place (Short k) = refl
+dead_turn place (Lacking k) = refl
 dead_turn place (Broken r) = refl
 dead_turn place (Whole f rest) = refl
 
@@ -177,7 +177,7 @@ short_rest bytes f rest is full =
 
 room_at : (who : ℕ) (l m : Lane) (p : Phase) (bytes reply : List ℕ) (place : ℕ) (f : Front) (es : History) → f ≡ front Target bytes → length bytes ≡ HELD → (p ≡ Dead → ⊥)
     → Makes who l (turn_at p place f) es reply m → MadeRoom m
-room_at who l m p bytes reply place (Short k) es is full alive makes = absurd (full_front Target bytes (omega (arith, full)) k (sym is))
+room_at who l m p bytes reply place (Lacking k) es is full alive makes = absurd (full_front Target bytes (omega (arith, full)) k (sym is))
 room_at who l m Dead bytes reply place f es is full alive makes = absurd (alive refl)
 room_at who l m Fresh bytes reply place (Broken r) es is full alive makes = died m makes.2
 room_at who l m (In n) bytes reply place (Broken r) es is full alive makes = died m makes.3

@@ -3,7 +3,7 @@ use Rattle.std.specs.Prelude.{ℕ, ◌+◌, ◌%◌, ◌^◌, ◌==◌, List, []
 use Rattle.pr_words.specs.declared.nexus.Nexus.{Nexus}
 use Rattle.pr_words.specs.declared.nexus.Side.TheVariants.{Target}
 use Rattle.pr_grammar.specs.Bodies.{login_version, login_nexus, command_cdb, command_data, login_reply, command_reply, reject}
-use Rattle.pr_grammar.specs.Frames.{Frame, Front, Short, Broken, Whole, front, frame, frame_size, spelled}
+use Rattle.pr_grammar.specs.Frames.{Frame, Front, Lacking, Broken, Whole, front, frame, frame_size, spelled}
 use Rattle.pr_model.specs.Entries.{Act, Login, Command, Logout, Out, Login_code, Ended}
 
 -- not logged in, logged in, or ended
@@ -88,7 +88,7 @@ broken Fresh place reason = Silent (rejected reason place)
 broken (In n) place reason = Asks n Logout (λ _. rejected reason place)
 
 abbrev pub turn_at : Phase → ℕ → Front → Turn
-turn_at phase place (Short lacks) = Idle
+turn_at phase place (Lacking lacks) = Idle
 turn_at phase place (Broken reason) = broken phase place reason
 turn_at phase place (Whole f rest) = asked phase place f rest
 

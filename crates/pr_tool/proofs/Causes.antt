@@ -3,14 +3,14 @@ use Rattle.std.proofs.Common.{◌≡◌, ℕ, ◌+◌, ◌-◌, ◌≤◌, List,
 use Rattle.std.proofs.lemmas.List.{append-nil, take_all, take_at, length-append}
 use Rattle.std.proofs.lemmas.List.Elements.{All-nil}
 use Rattle.std.proofs.Math.Seq.{take-append-add}
-use Rattle.pr_grammar.specs.Schedules.{Record, spelled_record, IsRecord, Faulty, record_front, IsUnfinished, Cut, IsWhole, IsBrokenAt, IsLong}
+use Rattle.pr_grammar.specs.Schedules.{Record, spelled_record, IsRecord, Faulty, record_front, IsUnfinished, AreRecords, IsWhole, IsBrokenAt, IsLong}
 use Rattle.pr_grammar.proofs.Records.{nothing_unfinished, faulty_more, StandsFirst, whole_more, broken_more, long_more}
 use Rattle.pr_tool.specs.Reading.{Stops, Reads, record_of}
 use Rattle.pr_tool.specs.declared.schedule.Record.{Record as Found}
 use Rattle.pr_tool.specs.declared.schedule.End.TheVariants.{Done, Broken, TooLong}
 
 -- bytes at whose front no whole record stands are cut into none
-cut_none : (lanes : ℕ) (bytes tail : List ℕ) → bytes ≡ tail → IsUnfinished (record_front lanes tail) → Cut lanes bytes [] tail
+cut_none : (lanes : ℕ) (bytes tail : List ℕ) → bytes ≡ tail → IsUnfinished (record_front lanes tail) → AreRecords lanes bytes [] tail
 cut_none lanes bytes tail is unfinished = record { spelling = is; valid = All-nil (IsRecord lanes); unfinished = unfinished }
 
 -- the schedule has ended where a record may begin

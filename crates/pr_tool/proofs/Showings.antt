@@ -12,10 +12,10 @@ use Rattle.pr_io.specs.Streams.{Took, Put, PutSome, HasEnded}
 use Rattle.pr_io.specs.Causes.{next_fault}
 use Rattle.pr_io.proofs.Pieces.{put_more, took_more, put_nothing, took_nothing}
 use Rattle.pr_io.proofs.Sent.{some_first, some_second}
-use Rattle.pr_grammar.specs.Frames.{Frame, Front, Short, Broken, Whole, front, frame_size}
+use Rattle.pr_grammar.specs.Frames.{Frame, Front, Lacking, Broken, Whole, front, frame_size}
 use Rattle.pr_grammar.specs.Shows.{AreFrames, HasBroken, size_of_all, line_of, last_line, text_of, line_feed}
 use Rattle.pr_grammar.proofs.Framings.{frames_more, frames_one, frames_size, size_one, none_broken, broken_behind, just_broken, whole_tight, short_some, front_none}
-use Rattle.pr_link.specs.Streams.{Stream, Gives, GivesIf, GivesAt, Feeds, FeedsIf, IsProper, frame_of}
+use Rattle.pr_link.specs.Streams.{Stream, Gives, GivesIf, GivesAt, Feeds, FeedsIf, IsFormed, frame_of}
 use Rattle.pr_link.specs.declared.frame.Got.{Got}
 use Rattle.pr_link.specs.declared.frame.Got.TheVariants as got
 use Rattle.pr_tool.specs.Reading.{IsAtEnd}
@@ -94,7 +94,7 @@ going_frame budget left later count ra rb rc wa wb wc s t text waits piece sent 
     }
 
 -- what was read so far, where bytes lack
-abbrev pub read_short : (budget left count k : ℕ) (ra rb wa wb : Option (List ℕ)) (s : Stream) (text : List ℕ) → Going budget ra rb wa wb s text count left → front Target s.held ≡ Short k → HasRead ra rb
+abbrev pub read_short : (budget left count k : ℕ) (ra rb wa wb : Option (List ℕ)) (s : Stream) (text : List ℕ) → Going budget ra rb wa wb s text count left → front Target s.held ≡ Lacking k → HasRead ra rb
 read_short budget left count k ra rb wa wb s text g short =
     record {
       read = g.read;
@@ -144,13 +144,13 @@ end_cause budget left (Some all) (Some rest) read took looked ended =
 
 -- the stream ends where bytes lack
 pub end_stands : (budget left count k fa fb : ℕ) (ra rb rc wa wb wc : Option (List ℕ)) (s : Stream) (text : List ℕ) (result : Exit) → (g : Going budget ra rb wa wb s text count left)
-    → front Target s.held ≡ Short k → Took rb rc [] → IsAtEnd rc → EndsWith exits.Done result wb wc (text ++ last_line g.frames s.held (Short k)) fa fb → ViewerEnds budget ra rc wa wc result
+    → front Target s.held ≡ Lacking k → Took rb rc [] → IsAtEnd rc → EndsWith exits.Done result wb wc (text ++ last_line g.frames s.held (Lacking k)) fa fb → ViewerEnds budget ra rc wa wc result
 end_stands budget left count k fa fb ra rb rc wa wb wc s text result g short took ended ends =
     let same : rc ≡ rb = took_none rb rc took in
     let here : HasRead ra rb = read_short budget left count k ra rb wa wb s text g short in
     let at_end : IsAtEnd rb = subst IsAtEnd same ended in
     subst (λ (x : Option (List ℕ)). ViewerEnds budget ra x wa wc result) (sym same)
-    (done_ends budget fa fb ra rb wa wb wc result here g.sent text (last_line g.frames s.held (Short k)) ends g.puts g.lines (ap (last_line g.frames s.held) (sym short)) (inl at_end) (end_cause budget left ra rb g.read g.took g.looked at_end))
+    (done_ends budget fa fb ra rb wa wb wc result here g.sent text (last_line g.frames s.held (Lacking k)) ends g.puts g.lines (ap (last_line g.frames s.held) (sym short)) (inl at_end) (end_cause budget left ra rb g.read g.took g.looked at_end))
 
 broken_cause : (budget : ℕ) (ra rb : Option (List ℕ)) (read : List ℕ) → Took ra rb read → length read ≤ budget → HasBroken Target read → ShowCauses exits.Done budget ra
 broken_cause budget None rb read took looked bad = tt
@@ -163,7 +163,7 @@ broken_cause budget (Some all) (Some rest) read took looked bad =
 
 -- a frame breaks a rule
 pub bad_stands : (budget left count k r fa fb : ℕ) (ra rb rc wa wb wc : Option (List ℕ)) (s : Stream) (text piece : List ℕ) (result : Exit) → (g : Going budget ra rb wa wb s text count left)
-    → front Target s.held ≡ Short k → Took rb rc piece → 0 < length piece → length piece ≤ k → length piece ≤ left → front Target (s.held ++ piece) ≡ Broken r
+    → front Target s.held ≡ Lacking k → Took rb rc piece → 0 < length piece → length piece ≤ k → length piece ≤ left → front Target (s.held ++ piece) ≡ Broken r
     → EndsWith exits.Done result wb wc (text ++ last_line g.frames (s.held ++ piece) (Broken r)) fa fb → ViewerEnds budget ra rc wa wc result
 bad_stands budget left count k r fa fb ra rb rc wa wb wc s text piece result g short took some few looked broken ends =
     let read : List ℕ = g.read ++ piece in
@@ -184,7 +184,7 @@ bad_stands budget left count k r fa fb ra rb rc wa wb wc s text piece result g s
     (broken_cause budget ra rc read all (omega (arith, g.looked, looked, length-append g.read piece)) bad)
 
 fault_here : (budget left count k fa fb : ℕ) (ra rb wa wb wc : Option (List ℕ)) (s : Stream) (text : List ℕ) (result : Exit) → Going budget ra rb wa wb s text count left
-    → front Target s.held ≡ Short k → EndsWith exits.ReadFault result wb wc text fa fb → ViewerEnds budget ra rb wa wc result
+    → front Target s.held ≡ Lacking k → EndsWith exits.ReadFault result wb wc text fa fb → ViewerEnds budget ra rb wa wc result
 fault_here budget left count k fa fb ra rb wa wb wc s text result g short ends =
     let here : HasRead ra rb = read_short budget left count k ra rb wa wb s text g short in
     elim ends [
@@ -197,12 +197,12 @@ fault_here budget left count k fa fb ra rb wa wb wc s text result g short ends =
 
 -- the source failed where bytes lack
 pub fault_stands : (budget left count k fa fb : ℕ) (ra rb rc wa wb wc : Option (List ℕ)) (s : Stream) (text : List ℕ) (result : Exit) → Going budget ra rb wa wb s text count left
-    → front Target s.held ≡ Short k → rc ≡ rb → EndsWith exits.ReadFault result wb wc text fa fb → ViewerEnds budget ra rc wa wc result
+    → front Target s.held ≡ Lacking k → rc ≡ rb → EndsWith exits.ReadFault result wb wc text fa fb → ViewerEnds budget ra rc wa wc result
 fault_stands budget left count k fa fb ra rb rc wa wb wc s text result g short same ends =
     subst (λ (x : Option (List ℕ)). ViewerEnds budget ra x wa wc result) (sym same) (fault_here budget left count k fa fb ra rb wa wb wc s text result g short ends)
 
 long_cause : (budget k : ℕ) (ra rb rc : Option (List ℕ)) (read more held : List ℕ) (fs : List Frame) → Took ra rb read → Took rb rc more → length read ≡ budget → length more ≡ 1
-    → AreFrames Target read fs held → front Target held ≡ Short k → ShowCauses exits.TooLong budget ra
+    → AreFrames Target read fs held → front Target held ≡ Lacking k → ShowCauses exits.TooLong budget ra
 long_cause budget k None rb rc read more held fs took behind looked one parts short = tt
 long_cause budget k (Some all) None rc read more held fs took behind looked one parts short = absurd took
 long_cause budget k (Some all) (Some rest) None read more held fs took behind looked one parts short = absurd behind
@@ -216,9 +216,9 @@ record ReadOn (ra rc : Option (List ℕ)) (text : List ℕ) : Type 0 where
   later : List ℕ
   is : text_of here.frames here.tail ≡ text ++ later
 
-read_on : (x : Front) (budget left count k : ℕ) (ra rb rc wa wb : Option (List ℕ)) (s : Stream) (text piece : List ℕ) → (g : Going budget ra rb wa wb s text count left) → front Target s.held ≡ Short k
+read_on : (x : Front) (budget left count k : ℕ) (ra rb rc wa wb : Option (List ℕ)) (s : Stream) (text piece : List ℕ) → (g : Going budget ra rb wa wb s text count left) → front Target s.held ≡ Lacking k
     → Took rb rc piece → 0 < length piece → length piece ≤ k → front Target (s.held ++ piece) ≡ x → ReadOn ra rc (flat_map line_of g.frames)
-read_on (Short j) budget left count k ra rb rc wa wb s text piece g short took some few is =
+read_on (Lacking j) budget left count k ra rb rc wa wb s text piece g short took some few is =
     let parts : AreFrames Target (g.read ++ piece) g.frames (s.held ++ piece) = frames_more Target g.read piece g.frames s.held g.parts in
     record {
       here =
@@ -251,7 +251,7 @@ read_on (Broken r) budget left count k ra rb rc wa wb s text piece g short took 
 read_on (Whole f rest) budget left count k ra rb rc wa wb s text piece g short took some few is =
     let parts : AreFrames Target (g.read ++ piece) (g.frames ++ f ∷ []) rest = frames_one Target (g.read ++ piece) g.frames (s.held ++ piece) f rest (frames_more Target g.read piece g.frames s.held g.parts) is in
     let none : rest ≡ [] = whole_tight Target s.held piece k f rest short few is in
-    let empty : front Target rest ≡ Short 4 = ap (front Target) none ∙ front_none Target in
+    let empty : front Target rest ≡ Lacking 4 = ap (front Target) none ∙ front_none Target in
     let last : List ℕ = last_line (g.frames ++ f ∷ []) rest (front Target rest) in
     record {
       here =
@@ -276,7 +276,7 @@ lines_some wa wb wc sent text lines puts some is = subst (λ (w : List ℕ). Put
 
 -- more comes where no more is looked at
 pub long_stands : (budget left count k fa fb : ℕ) (ra rb rc wa wb wc : Option (List ℕ)) (s : Stream) (text more : List ℕ) (result : Exit) → Going budget ra rb wa wb s text count left
-    → front Target s.held ≡ Short k → left ≡ 0 → Took rb rc more → length more ≡ 1 → EndsWith exits.TooLong result wb wc text fa fb → ViewerEnds budget ra rc wa wc result
+    → front Target s.held ≡ Lacking k → left ≡ 0 → Took rb rc more → length more ≡ 1 → EndsWith exits.TooLong result wb wc text fa fb → ViewerEnds budget ra rc wa wc result
 long_stands budget left count k fa fb ra rb rc wa wb wc s text more result g short none behind one ends =
     let here : HasRead ra rb = read_short budget left count k ra rb wa wb s text g short in
     let some : 0 < k = short_some Target s.held k short in
@@ -291,12 +291,12 @@ long_stands budget left count k fa fb ra rb rc wa wb wc s text more result g sho
     ]
 
 -- the lines up to a frame's weren't all written
-pub frame_fault : (budget left count k : ℕ) (ra rb rc wa wb wc : Option (List ℕ)) (s : Stream) (text piece rest : List ℕ) (f : Frame) → Going budget ra rb wa wb s text count left → front Target s.held ≡ Short k
+pub frame_fault : (budget left count k : ℕ) (ra rb rc wa wb wc : Option (List ℕ)) (s : Stream) (text piece rest : List ℕ) (f : Frame) → Going budget ra rb wa wb s text count left → front Target s.held ≡ Lacking k
     → Took rb rc piece → length piece ≤ k → front Target (s.held ++ piece) ≡ Whole f rest → PutSome wb wc (text ++ line_of f) → ViewerEnds budget ra rc wa wc exits.WriteFault
 frame_fault budget left count k ra rb rc wa wb wc s text piece rest f g short took few whole some =
     let parts : AreFrames Target (g.read ++ piece) (g.frames ++ f ∷ []) rest = frames_one Target (g.read ++ piece) g.frames (s.held ++ piece) f rest (frames_more Target g.read piece g.frames s.held g.parts) whole in
     let none : rest ≡ [] = whole_tight Target s.held piece k f rest short few whole in
-    let empty : front Target rest ≡ Short 4 = ap (front Target) none ∙ front_none Target in
+    let empty : front Target rest ≡ Lacking 4 = ap (front Target) none ∙ front_none Target in
     let here : HasRead ra rc =
     record {
       read = g.read ++ piece;
@@ -310,14 +310,14 @@ frame_fault budget left count k ra rb rc wa wb wc s text piece rest f g short to
     ((here, some_first wa wc (flat_map line_of (g.frames ++ f ∷ [])) (last_line (g.frames ++ f ∷ []) rest (front Target rest)) lines), tt, tt)
 
 -- behind a whole frame made of no more bytes than lacked, four bytes lack
-pub four_lack : (held piece rest : List ℕ) (k : ℕ) (f : Frame) → front Target held ≡ Short k → length piece ≤ k → front Target (held ++ piece) ≡ Whole f rest → front Target rest ≡ Short 4
+pub four_lack : (held piece rest : List ℕ) (k : ℕ) (f : Frame) → front Target held ≡ Lacking k → length piece ≤ k → front Target (held ++ piece) ≡ Whole f rest → front Target rest ≡ Lacking 4
 four_lack held piece rest k f short few whole = ap (front Target) (whole_tight Target held piece k f rest short few whole) ∙ front_none Target
 
 -- what a deframer of the target's side answers once a piece has come
 finds_at : (x : Front) (old mid new : Stream) (piece buf : List ℕ) (answer : Got) → old.side ≡ Target → mid ≡ record old { held = old.held ++ piece } → front Target (old.held ++ piece) ≡ x → GivesAt mid x answer new buf → Finds old piece answer new buf
-finds_at (Short k) old mid new piece buf (got.Need n) side is at gives = (at ∙ ap Short (sym gives.0), gives.1 ∙ is)
-finds_at (Short k) old mid new piece buf (got.Bad place r) side is at gives = absurd gives
-finds_at (Short k) old mid new piece buf (got.Frame g) side is at gives = absurd gives
+finds_at (Lacking k) old mid new piece buf (got.Need n) side is at gives = (at ∙ ap Lacking (sym gives.0), gives.1 ∙ is)
+finds_at (Lacking k) old mid new piece buf (got.Bad place r) side is at gives = absurd gives
+finds_at (Lacking k) old mid new piece buf (got.Frame g) side is at gives = absurd gives
 finds_at (Broken r) old mid new piece buf (got.Need n) side is at gives = absurd gives
 finds_at (Broken r) old mid new piece buf (got.Bad place reason) side is at gives = (at ∙ ap Broken (sym gives.1), gives.0 ∙ ap (λ (s : Stream). s.place) is)
 finds_at (Broken r) old mid new piece buf (got.Frame g) side is at gives = absurd gives
@@ -329,7 +329,7 @@ finds_at (Whole f rest) old mid new piece buf (got.Frame g) side is at gives =
     let same : mid.side ≡ Target = ap (λ (s : Stream). s.side) is ∙ side in
     let next : new ≡ record old { place = (old.place + frame_size (frame_of g (take g.body buf))) % 2 ^ 64; held = rest } =
     gives.1 ∙ ap (λ (s : Stream). record s { place = (s.place + frame_size f) % 2 ^ 64; held = rest }) is ∙ ap (λ (h : Frame). record old { place = (old.place + frame_size h) % 2 ^ 64; held = rest }) f_is in
-    (rest, whole, next, subst (λ (x : Side). IsProper x g buf) same gives.2)
+    (rest, whole, next, subst (λ (x : Side). IsFormed x g buf) same gives.2)
 
 pub finds : (old mid new : Stream) (piece buf : List ℕ) (answer : Got) → old.side ≡ Target → old.broken ≡ None → mid ≡ record old { held = old.held ++ piece } → Gives mid answer new buf → Finds old piece answer new buf
 finds old mid new piece buf answer side unbroken is gives =
@@ -361,11 +361,11 @@ shows_decide exits.TooLong budget (Some all) rb wa wb shows cause = (λ s. absur
 
 -- the last line of a stream that lacks bytes
 
-pub last_end : (fs : List Frame) (held text : List ℕ) (lacks count : ℕ) → length held ≡ 0 → count ≡ length fs → text ++ (codes "end frames=" ++ decimal count ++ line_feed) ≡ text ++ last_line fs held (Short lacks)
+pub last_end : (fs : List Frame) (held text : List ℕ) (lacks count : ℕ) → length held ≡ 0 → count ≡ length fs → text ++ (codes "end frames=" ++ decimal count ++ line_feed) ≡ text ++ last_line fs held (Lacking lacks)
 last_end fs [] text lacks count none counted = ap (λ (n : ℕ). text ++ (codes "end frames=" ++ decimal n ++ line_feed)) counted
 last_end fs (x ∷ xs) text lacks count none counted = absurd (omega (arith, none))
 
-pub last_cut : (fs : List Frame) (held text : List ℕ) (lacks place : ℕ) → (length held ≡ 0 → ⊥) → place ≡ size_of_all fs → text ++ (codes "cut place=" ++ decimal place ++ line_feed) ≡ text ++ last_line fs held (Short lacks)
+pub last_cut : (fs : List Frame) (held text : List ℕ) (lacks place : ℕ) → (length held ≡ 0 → ⊥) → place ≡ size_of_all fs → text ++ (codes "cut place=" ++ decimal place ++ line_feed) ≡ text ++ last_line fs held (Lacking lacks)
 last_cut fs [] text lacks place some placed = absurd (some refl)
 last_cut fs (x ∷ xs) text lacks place some placed = ap (λ (n : ℕ). text ++ (codes "cut place=" ++ decimal n ++ line_feed)) placed
 

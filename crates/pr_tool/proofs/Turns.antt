@@ -3,7 +3,7 @@ use Rattle.std.proofs.Common.{◌≡◌, ℕ, ◌∙◌, true, List, take, refl,
 use Rattle.pr_link.specs.declared.frame.Frame.{Frame}
 use Rattle.pr_link.specs.declared.frame.Got.TheVariants as got
 use Rattle.pr_link.specs.Streams.{Stream, frame_of}
-use Rattle.pr_grammar.specs.Frames.{Front, Short, Broken, Whole}
+use Rattle.pr_grammar.specs.Frames.{Front, Lacking, Broken, Whole}
 use Rattle.pr_grammar.specs.Frames as frames
 use Rattle.pr_grammar.specs.Bodies.{login_nexus, login_version, command_cdb, command_data}
 use Rattle.pr_words.specs.declared.nexus.Nexus.{Nexus}
@@ -12,17 +12,17 @@ use Rattle.pr_model.specs.Lanes.{Phase, Fresh, In, Dead, Idle, Asks, broken, ask
 use Rattle.pr_tool.specs.Following.{Receives}
 
 pub dead_idle : (place : ℕ) (f : Front) → turn_at Dead place f ≡ Idle
-dead_idle place (Short k) = refl
+dead_idle place (Lacking k) = refl
 dead_idle place (Broken r) = refl
 dead_idle place (Whole f rest) = refl
 
 pub turn_bad : (phase : Phase) (f : Front) (old new : Stream) (place reason : ℕ) (buf : List ℕ) → Receives f old (got.Bad place reason) new buf → turn_at phase old.place f ≡ broken phase place reason
-turn_bad phase (Short k) old new place reason buf g = absurd g
+turn_bad phase (Lacking k) old new place reason buf g = absurd g
 turn_bad phase (Broken r) old new place reason buf g = ap (λ (p : ℕ). broken phase p r) (sym g.0) ∙ ap (broken phase place) (sym g.1)
 turn_bad phase (Whole f rest) old new place reason buf g = absurd g
 
 pub turn_frame : (phase : Phase) (f : Front) (old new : Stream) (g : Frame) (place : ℕ) (buf : List ℕ) → place ≡ old.place → Receives f old (got.Frame g) new buf → turn_at phase old.place f ≡ asked phase place (frame_of g (take g.body buf)) new.held
-turn_frame phase (Short k) old new g place buf at h = absurd h
+turn_frame phase (Lacking k) old new g place buf at h = absurd h
 turn_frame phase (Broken r) old new g place buf at h = absurd h
 turn_frame phase (Whole f rest) old new g place buf at h =
     ap (λ (x : frames.Frame). asked phase old.place x rest) h.0 ∙ ap (λ (p : ℕ). asked phase p (frame_of g (take g.body buf)) rest) (sym at) ∙ ap (λ (s : Stream). asked phase place (frame_of g (take g.body buf)) s.held) (sym h.1)

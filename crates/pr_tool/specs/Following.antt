@@ -1,7 +1,7 @@
 -- A session and a core that go on together.
 use Rattle.std.specs.Prelude.{◌≡◌, ℕ, ◌+◌, ◌-◌, ◌%◌, ◌^◌, List, [], take, length, min, slice_get, Some, None}
 use Rattle.pr_words.specs.declared.nexus.Side.TheVariants.{Target}
-use Rattle.pr_grammar.specs.Frames.{Front, Short, Broken, Whole, frame_size}
+use Rattle.pr_grammar.specs.Frames.{Front, Lacking, Broken, Whole, frame_size}
 use Rattle.pr_model.specs.Limits.{HELD}
 use Rattle.pr_model.specs.Entries.{History}
 use Rattle.pr_model.specs.Lanes.{Lane, Phase, Fresh, In, Dead, Turn}
@@ -10,7 +10,7 @@ use Rattle.pr_io.specs.declared.outside.Medium as media
 use Rattle.pr_io.specs.declared.outside.Disk as disks
 use Rattle.pr_core.specs.declared.target.Core.{Core}
 use Rattle.pr_core.specs.View.{owner_of, Extends}
-use Rattle.pr_link.specs.Streams.{Stream, IsProper, frame_of}
+use Rattle.pr_link.specs.Streams.{Stream, IsFormed, frame_of}
 use Rattle.pr_link.specs.declared.frame.Got.{Got}
 use Rattle.pr_link.specs.declared.frame.Got.TheVariants as got
 
@@ -37,10 +37,10 @@ pub record IsIntact (s : Stream) : Type 0 where
 
 -- the next frame, with which a session goes on; after a broken rule the stream begins anew
 abbrev pub Receives : Front → Stream → Got → Stream → List ℕ → Type 0
-Receives (Short k) old (got.Need n) new buf = new ≡ old
+Receives (Lacking k) old (got.Need n) new buf = new ≡ old
 Receives (Broken r) old (got.Bad place reason) new buf = (place ≡ old.place) × (reason ≡ r) × (new ≡ record old { place = 0; held = []; broken = None })
 Receives (Whole f rest) old (got.Frame g) new buf =
-    (f ≡ frame_of g (take g.body buf)) × (new ≡ record old { place = (old.place + frame_size f) % 2 ^ 64; held = rest }) × IsProper old.side g buf
+    (f ≡ frame_of g (take g.body buf)) × (new ≡ record old { place = (old.place + frame_size f) % 2 ^ 64; held = rest }) × IsFormed old.side g buf
 Receives _ old _ new buf = ⊥
 
 -- how many of these bytes a lane takes, where it holds so many at most; a dead one drops all

@@ -4,9 +4,9 @@ use Rattle.std.specs.List.{flat_map}
 use Rattle.pr_io.specs.Streams.{Took, Put, PutSome}
 use Rattle.pr_io.specs.Causes.{next_fault}
 use Rattle.pr_words.specs.declared.nexus.Side.TheVariants.{Target}
-use Rattle.pr_grammar.specs.Frames.{Frame, Short, Broken, Whole, front, frame_size}
+use Rattle.pr_grammar.specs.Frames.{Frame, Lacking, Broken, Whole, front, frame_size}
 use Rattle.pr_grammar.specs.Shows.{AreFrames, Framed, HasBroken, JustBroken, size_of_all, line_of, text_of}
-use Rattle.pr_link.specs.Streams.{Stream, IsProper, frame_of}
+use Rattle.pr_link.specs.Streams.{Stream, IsFormed, frame_of}
 use Rattle.pr_link.specs.declared.frame.Got.{Got}
 use Rattle.pr_link.specs.declared.frame.Got.TheVariants as got
 use Rattle.pr_link.specs.Deframer.{stream_of, held_of}
@@ -26,7 +26,7 @@ pub record HasRead (rest_old rest : Option (List ℕ)) : Type 0 where
 
 -- no frame of what was read breaks a rule
 abbrev pub IsUnbroken : {ra rb : Option (List ℕ)} → HasRead ra rb → Type 0
-IsUnbroken r = (lacks : ℕ) × (front Target r.tail ≡ Short lacks)
+IsUnbroken r = (lacks : ℕ) × (front Target r.tail ≡ Lacking lacks)
 
 -- what was read and written at each exit: at Done the text of all that the source held, or of a stream up to a frame that breaks a rule; at a fault a front of such a text; nothing where no memory was there. There is no other exit
 abbrev pub Shows : Exit → Option (List ℕ) → Option (List ℕ) → Option (List ℕ) → Option (List ℕ) → Type 0
@@ -71,7 +71,7 @@ ShowDecides exit budget (Some all) = (EndsWithin budget all → PrecedesStream e
 pub record Ready (v : Viewer) : Type 0 where
   pub side : (stream_of v.deframer).side ≡ Target
   pub unbroken : (stream_of v.deframer).broken ≡ None
-  pub short : front Target (held_of v.deframer) ≡ Short v.need
+  pub short : front Target (held_of v.deframer) ≡ Lacking v.need
   pub work : length v.work.items ≡ 524320
   pub taken : 65536 ≤ vec_capacity v.text
   pub room : vec_len v.text + 128 ≤ 65536
@@ -116,8 +116,8 @@ EndsWith exit result wa wb text fa fb =
 
 -- what stands at the front of a target's stream once a piece has come, and the stream afterwards; a body stands in the buffer
 abbrev pub Finds : Stream → List ℕ → Got → Stream → List ℕ → Type 0
-Finds old piece (got.Need n) new buf = (front Target (old.held ++ piece) ≡ Short n) × (new ≡ record old { held = old.held ++ piece })
+Finds old piece (got.Need n) new buf = (front Target (old.held ++ piece) ≡ Lacking n) × (new ≡ record old { held = old.held ++ piece })
 Finds old piece (got.Bad place reason) new buf = (front Target (old.held ++ piece) ≡ Broken reason) × (place ≡ old.place)
 Finds old piece (got.Frame g) new buf =
     (rest : List ℕ) × (front Target (old.held ++ piece) ≡ Whole (frame_of g (take g.body buf)) rest)
-    × (new ≡ record old { place = (old.place + frame_size (frame_of g (take g.body buf))) % 2 ^ 64; held = rest }) × IsProper Target g buf
+    × (new ≡ record old { place = (old.place + frame_size (frame_of g (take g.body buf))) % 2 ^ 64; held = rest }) × IsFormed Target g buf

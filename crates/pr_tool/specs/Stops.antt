@@ -57,6 +57,6 @@ StopsBy lanes left (stop.Read end) before after old earlier new =
 StopsBy lanes left stop.Write before after old earlier new = WasCut lanes left before after old earlier new
 
 -- what one record did, of so many bytes that may still be looked at, or why the run stops
-abbrev pub Does : {M D : Type 0} {gm : media.Ghosts M} {gd : disks.Ghosts D} → ℕ → ℕ → Result ℕ Stop → ToldStreams → ToldStreams → Core M D gm gd → List Lane → Core M D gm gd → List Lane → Type 0
-Does lanes left (Ok size) before after old earlier new now = Did lanes left before after old earlier new now size
-Does lanes left (Err s) before after old earlier new now = StopsBy lanes left s before after old earlier new
+abbrev pub RunsOne : {M D : Type 0} {gm : media.Ghosts M} {gd : disks.Ghosts D} → ℕ → ℕ → Result ℕ Stop → ToldStreams → ToldStreams → Core M D gm gd → List Lane → Core M D gm gd → List Lane → Type 0
+RunsOne lanes left (Ok size) before after old earlier new now = Did lanes left before after old earlier new now size
+RunsOne lanes left (Err s) before after old earlier new now = StopsBy lanes left s before after old earlier new

@@ -13,7 +13,7 @@ ghost use Rattle.pr_tool.specs.Sessions.{lane_of, lanes_of};
 ghost use Rattle.pr_tool.specs.Following.{Agrees, AllAgree, fed};
 ghost use Rattle.pr_tool.specs.Counting.{faults_read};
 ghost use Rattle.pr_tool.specs.Exits.{Ran, RunEnds, Stands, Causes, Decides};
-ghost use Rattle.pr_tool.specs.Stops.{exit_of, Does};
+ghost use Rattle.pr_tool.specs.Stops.{exit_of, RunsOne};
 ghost use Rattle.pr_tool.specs.Asking.{AsksReplay};
 
 use crate::asking::lanes_asked;
@@ -204,7 +204,7 @@ fn run_one<S: Source, K: Sink, M: Medium, D: Disk>(
     requires agree { AllAgree (lanes_of lanes.old) core.old }
     requires most { length lanes.old ≤ 64 }
     requires room { vec_len body.old ≡ 65535 }
-    ensures does { Does (length lanes.old) left result
+    ensures does { RunsOne (length lanes.old) left result
         (told_streams S.Source K.Sink source.old sink.old)
         (told_streams S.Source K.Sink source.new sink.new)
         core.old (lanes_of lanes.old) core.new (lanes_of lanes.new) }

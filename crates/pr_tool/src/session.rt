@@ -205,7 +205,7 @@ impl Session {
     )
         requires agrees { Agrees (phase_of self.old.phase) who core.old }
         requires alive { IsAlive self.old.phase }
-        requires proper { streams.IsProper Target head self.old.work.items }
+        requires proper { streams.IsFormed Target head self.old.work.items }
         requires placed { (lane_of self.old).place ≡
             place_after place (streams.frame_of head (take head.body self.old.work.items)) }
         ensures follows { (l : Lane) → Follows who core.old l

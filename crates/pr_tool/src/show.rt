@@ -2,7 +2,7 @@ ghost use Rattle.std.specs.Prelude.{◌≡◌, ℕ, ◌+◌, ◌<◌, ◌≤◌,
 ghost use Rattle.pr_words.specs.declared.nexus.Side.TheVariants.{Target};
 ghost use Rattle.pr_io.specs.Streams.{Took, Put, PutSome, HasEnded, MovesInto};
 ghost use Rattle.pr_io.specs.Causes.{HasCause};
-ghost use Rattle.pr_grammar.specs.Frames.{Short, is_body};
+ghost use Rattle.pr_grammar.specs.Frames.{Lacking, is_body};
 ghost use Rattle.pr_grammar.specs.Frames as frames;
 ghost use Rattle.pr_grammar.specs.Shows.{line_of, last_line, size_of_all};
 ghost use Rattle.pr_link.specs.Streams.{frame_of};
@@ -171,7 +171,7 @@ impl Viewer {
         ensures ends { (fs : List frames.Frame) (lacks : ℕ) → self.old.frames ≡ length fs →
             place_of self.old.deframer ≡ size_of_all fs →
             EndsWith Exit.Done result (K.written sink.old) (K.written sink.new)
-            (self.old.text.items ++ last_line fs (held_of self.old.deframer) (Short lacks))
+            (self.old.text.items ++ last_line fs (held_of self.old.deframer) (Lacking lacks))
             (K.faults sink.old) (K.faults sink.new) }
         ensures read { result ≡ Exit.ReadFault → ⊥ }
         ensures faults { K.faults sink.new ≡ sink_faults result (K.faults sink.old) }
