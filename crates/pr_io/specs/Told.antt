@@ -16,9 +16,10 @@ pub record ToldSink : Type 0 where
   pub written : Option (List ℕ)
   pub faults : ℕ
 
--- the number of blocks, and how often it has failed (this project's own)
+-- the number of blocks, the bytes of each, where they are told, and how often it has failed (this project's own)
 pub record ToldMedium : Type 0 where
   pub blocks : ℕ
+  pub contents : Option (ℕ → List ℕ)
   pub faults : ℕ
 
 -- how often it has failed (this project's own)
@@ -43,7 +44,7 @@ abbrev pub told_sink : {K : Type 0} → sink.Ghosts K → K → ToldSink
 told_sink of k = record { written = of.written k; faults = of.faults k }
 
 abbrev pub told_medium : {M : Type 0} → medium.Ghosts M → M → ToldMedium
-told_medium of m = record { blocks = of.count m; faults = of.faults m }
+told_medium of m = record { blocks = of.count m; contents = of.contents m; faults = of.faults m }
 
 abbrev pub told_disk : {D : Type 0} → disk.Ghosts D → D → ToldDisk
 told_disk of d = record { faults = of.faults d }
