@@ -4,9 +4,10 @@
 Usage: bench/replay.py [COMMANDS]     (commands of a timed run; 200000 where none are given)
 
 A schedule of one lane logs in, takes the attention of the power-up and registers a key, and then has so many times the
-same command, each as an arrival and a step. A schedule of 64 lanes logs each in, and then each in turn registers,
-reserves and releases. With a type of registrants only, each release tells the other 63, so each lane begins with a
-command that takes that attention. Times come from the fastest of several runs, less that of a run with no such
+same command, each as an arrival and a step. Before that, 255 other nexuses may log in on the lane, each of whose
+connections is closed, so that 256 nexuses are known. A schedule of 64 lanes logs each in, and then each in turn
+registers, reserves and releases. With a type of registrants only, each release tells the other 63, so each lane begins
+with a command that takes that attention. Times come from the fastest of several runs, less that of a run with no such
 command. Instructions are counted by callgrind over two lengths, and their difference is divided, so that start-up
 cancels. Memory is the peak that the system tells of the process when the last reply has come.
 
@@ -23,10 +24,12 @@ import time
 HOME = os.path.dirname(os.path.dirname(os.path.abspath(__file__)))
 PROGRAM = os.path.join(HOME, "crates", "prtool", "out", "prtool")
 LANES = 64
+KNOWN = 256
 ROUNDS = 7
 COUNTED = (2000, 12000)
 
 MOST_INSTRUCTIONS = 3000  # of a TEST UNIT READY, from arrival to reply
+MOST_GROWTH = 1.15  # of these instructions, where 256 nexuses are known, to those where one is
 MOST_MEMORY = 8 * 1024  # KiB resident, with one lane
 MOST_MEMORY_OF_ALL = 72 * 1024  # KiB resident, with 64 lanes
 LEAST_SHARE = 0.5  # of the rate of a TEST UNIT READY on one lane, where 64 lanes reserve
@@ -50,6 +53,7 @@ def turn(text, lane=0):
     return arrivals(text, lane) + bytes([lane, 1, 0, 0])
 
 
+CLOSE = bytes([0, 2, 0, 0])
 TEST_UNIT_READY = bytes(6)
 REGISTER_AND_IGNORE = bytes.fromhex("5F060000000000001800")
 READ_KEYS = bytes.fromhex("5E000000000000010000")
@@ -76,8 +80,11 @@ OPENING = (
 )
 
 
-def schedule(cdb, count):
-    return OPENING + b"".join(turn(command(tag, cdb)) for tag in range(4, 4 + count))
+OTHERS = b"".join(turn(frame(1, 1, login(other))) + CLOSE for other in range(1, KNOWN))
+
+
+def schedule(cdb, count, before=b""):
+    return before + OPENING + b"".join(turn(command(tag, cdb)) for tag in range(4, 4 + count))
 
 
 def cluster(kind, rounds):
@@ -154,14 +161,14 @@ def told(name, rate, each):
     print(f"{name}: {rate:.0f} commands/s, instructions a command {counted}")
 
 
-def measure(folder, name, cdb, count):
+def measure(folder, name, cdb, count, before=b""):
     """Commands a second, and instructions a command or None."""
-    opening = seconds(write(folder, "opening", schedule(cdb, 0)), folder, 1)
-    path = write(folder, "schedule", schedule(cdb, count))
+    opening = seconds(write(folder, "opening", schedule(cdb, 0, before)), folder, 1)
+    path = write(folder, "schedule", schedule(cdb, count, before))
     rate = count / (seconds(path, folder, 1) - opening)
     each = None
     if shutil.which("valgrind"):
-        few, many = (instructions(write(folder, "counted", schedule(cdb, n)), 1) for n in COUNTED)
+        few, many = (instructions(write(folder, "counted", schedule(cdb, n, before)), 1) for n in COUNTED)
         each = (many - few) / (COUNTED[1] - COUNTED[0])
     told(name, rate, each)
     return rate, each
@@ -188,6 +195,7 @@ def main():
     count = int(sys.argv[1]) if len(sys.argv) > 1 else 200000
     with tempfile.TemporaryDirectory() as folder:
         rate, each = measure(folder, "TEST UNIT READY", TEST_UNIT_READY, count)
+        _, crowded = measure(folder, f"TEST UNIT READY, {KNOWN} known nexuses", TEST_UNIT_READY, count, OTHERS)
         measure(folder, "READ KEYS", READ_KEYS, count)
         rates = [
             measure_cluster(folder, f"64 lanes register, reserve and release type {kind}h", kind, count)
@@ -196,7 +204,7 @@ def main():
     holds = (
         memory(1) < MOST_MEMORY
         and memory(LANES) < MOST_MEMORY_OF_ALL
-        and (each is None or each <= MOST_INSTRUCTIONS)
+        and (each is None or (each <= MOST_INSTRUCTIONS and crowded <= MOST_GROWTH * each))
         and min(rates) >= LEAST_SHARE * rate
     )
     counted = "" if each is not None else " (instructions weren't counted: there is no valgrind)"

@@ -1,4 +1,4 @@
-pub mod SlotLaws
+pub mod SeatLaws
 pub mod StateLaws
 pub mod Entering
 pub mod Checking

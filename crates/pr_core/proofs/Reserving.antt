@@ -27,19 +27,18 @@ use Rattle.pr_core.specs.declared.state.State.{State}
 use Rattle.pr_core.specs.declared.answers.CommandOut.{CommandOut}
 use Rattle.pr_core.specs.declared.answers.CommandOut.TheVariants as outs
 use Rattle.pr_core.specs.Outs.{out_of}
-use Rattle.pr_core.specs.Slots.{seat_in}
+use Rattle.pr_core.specs.Places.{seat_in}
 use Rattle.pr_core.specs.Seats.{seat_of, count_of, attentions_in, owner_in, Lists}
 use Rattle.pr_core.specs.Telling.{raised_where, told_seat}
 use Rattle.pr_core.specs.States.{world_with, Depicts}
 use Rattle.pr_core.specs.Admits.{Reserves}
 
 -- the seat of a nexus is its own
-seat_in_is : (slots : List (Option Seat)) (m : Nexus) (s : Seat) → seat_in slots m ≡ Some s → s.nexus ≡ m
+seat_in_is : (seats : List Seat) (m : Nexus) (s : Seat) → seat_in seats m ≡ Some s → s.nexus ≡ m
 seat_in_is [] m s is = absurd cc
-seat_in_is (None ∷ slots) m s is = seat_in_is slots m s is
-seat_in_is (Some t ∷ slots) m s is = by (same_nexus t.nexus m) refl is (seat_in_is slots m s)
+seat_in_is (t ∷ seats) m s is = by (same_nexus t.nexus m) refl is (seat_in_is seats m s)
   where
-    by : (b : Bool) → same_nexus t.nexus m ≡ b → cond b (Some t) (seat_in slots m) ≡ Some s → (seat_in slots m ≡ Some s → s.nexus ≡ m) → s.nexus ≡ m
+    by : (b : Bool) → same_nexus t.nexus m ≡ b → cond b (Some t) (seat_in seats m) ≡ Some s → (seat_in seats m ≡ Some s → s.nexus ≡ m) → s.nexus ≡ m
     by true e is later = let same : t ≡ s = cc in ap (λ (x : Seat). x.nexus) (sym same) ∙ same_is t.nexus m e
     by false e is later = later is
 
@@ -207,7 +206,7 @@ tells_by old g n o standing gone stay_code removed_code served stay left told =
           ∙ ap (λ (c : Option Code). option_map (told_seat n a.standing.pairs c gone removed_code) (seat_of old.seats m)) stay
           ∙ ap (λ (ps : List Pair). option_map (told_seat n a.standing.pairs a.stay_code ps removed_code) (seat_of old.seats m)) served.gone_is
           ∙ ap (λ (c : Option Code). option_map (told_seat n a.standing.pairs a.stay_code a.removed c) (seat_of old.seats m)) left;
-      own = λ m s is. seat_in_is old.seats.slab.slots m s is;
+      own = λ m s is. seat_in_is old.seats.items.items m s is;
       stay = λ m is. seated_still old n o standing gone served m (ap (λ (s : Standing). is_registered s.pairs m) served.standing_is ∙ is);
       gone = λ m is. old.seated m ((acted_reaches LIMIT (standing_of old.table) n o).removed m is);
     }

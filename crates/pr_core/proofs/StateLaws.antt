@@ -20,7 +20,7 @@ use Rattle.pr_core.specs.declared.seats.Seats.{Seats}
 use Rattle.pr_core.specs.declared.state.State.{State}
 use Rattle.pr_core.specs.Seats.{seat_of, count_of, attentions_in, owner_in, logged_in, logged_out, Lists}
 use Rattle.pr_core.specs.States.{Depicts, owner_at}
-use Rattle.pr_core.proofs.SlotLaws.{same_self}
+use Rattle.pr_core.proofs.SeatLaws.{same_self}
 
 -- the seat of one nexus is changed
 

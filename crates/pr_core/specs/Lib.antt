@@ -1,4 +1,4 @@
-pub mod Slots
+pub mod Places
 pub mod Seats
 pub mod Telling
 pub mod Outs

@@ -1,22 +1,21 @@
 -- The known nexuses as the core holds them.
-use Rattle.std.specs.Prelude.{◌≡◌, ℕ, List, [], ◌∷◌, length, Option, Some, None, is_some, drop}
-use Rattle.slab.specs.Slab.{slab_len}
+use Rattle.std.specs.Prelude.{◌≡◌, ℕ, List, [], ◌∷◌, length, Option, Some, None, is_some, drop, vec_len}
 use Rattle.pr_words.specs.declared.nexus.Nexus.{Nexus}
 use Rattle.pr_words.specs.declared.code.Code.{Code}
 use Rattle.pr_model.specs.Attentions.{powered_on}
 use Rattle.pr_model.specs.Worlds.{is_known}
 use Rattle.pr_core.specs.declared.seats.Seat.{Seat}
 use Rattle.pr_core.specs.declared.seats.Seats.{Seats}
-use Rattle.pr_core.specs.Slots.{seat_in}
+use Rattle.pr_core.specs.Places.{seat_in}
 
 -- crates above, and the core, cite these words and don't look into them
 
 abbrev pub seat_of : Seats → Nexus → Option Seat
-seat_of seats n = seat_in seats.slab.slots n
+seat_of seats n = seat_in seats.items.items n
 
 -- how many nexuses are known
 abbrev pub count_of : Seats → ℕ
-count_of seats = slab_len seats.slab
+count_of seats = vec_len seats.items
 
 -- a nexus that isn't known has the attention of the power-up
 abbrev pub attentions_in : Option Seat → List Code

@@ -1,17 +1,15 @@
-ghost use Rattle.std.specs.Prelude.{◌≡◌, ◌⊎◌, ◌+◌, ◌<◌, ◌≤◌, ℕ, true, not, nat_lt, Some, None, is_some, IfOk, IfSome, IfNone, option_map, slice_get, if◌then◌else◌};
-ghost use Rattle.slab.specs.Slab.{get, slab_len};
+ghost use Rattle.std.specs.Prelude.{◌≡◌, ◌⊎◌, ◌+◌, ◌<◌, ◌≤◌, true, not, nat_lt, Some, None, is_some, IfOk, IfSome, option_map, map, slice_get, vec_len, vec_capacity, if◌then◌else◌};
 ghost use Rattle.pr_words.specs.declared.nexus.Nexus.{Nexus};
 ghost use Rattle.pr_model.specs.Limits.{KNOWN};
 ghost use Rattle.pr_model.specs.Worlds.{set_at};
 ghost use Rattle.pr_model.specs.Attentions.{is_attention};
 ghost use Rattle.pr_table.specs.Tables.{standing_of, removed_of};
-ghost use Rattle.pr_core.specs.Slots.{AreApart, StandsUnder};
+ghost use Rattle.pr_core.specs.Places.{IsAscending, IsPlace, Divides};
 ghost use Rattle.pr_core.specs.Telling.{told_seat};
 
 use pr_rules::Attentions;
 use pr_table::{Change, Table};
-use pr_words::{Code, Nexus, is_same};
-use slab::Slab;
+use pr_words::{Code, Nexus, is_same, stands_before};
 use std::alloc::{AllocError, Global};
 
 /// How many nexuses can be known.
@@ -27,13 +25,13 @@ pub struct Seat {
     pub attentions: Attentions,
 }
 
-/// The known nexuses. The memory of all is taken by `new`.
+/// The known nexuses, in their order. The memory of all is taken by `new`.
 #[derive(Drop)]
 pub struct Seats {
-    slab: Slab<Seat>,
-    ghost apart: { AreApart slab },
-    ghost within: { slab_len slab ≤ KNOWN },
-    ghost room: { KNOWN ≤ slab.capacity },
+    items: Vec<Seat>,
+    ghost ascending: { IsAscending items.items },
+    ghost within: { vec_len items ≤ KNOWN },
+    ghost room: { KNOWN ≤ vec_capacity items },
 }
 
 impl Seats {
@@ -44,43 +42,39 @@ impl Seats {
         ensures { IfOk result (λ s. (seat_of s ≡ (λ n. None)) × (count_of s ≡ 0)) }
     {
         Ok(Seats {
-            slab: Slab::with_capacity(alloc, MOST)?,
+            items: Vec::with_capacity(alloc, MOST)?,
         })
     }
 
-    /// Under which key the seat of a nexus stands.
-    fn find(&self, nexus: Nexus) -> Option<usize>
-        ensures found { IfSome result (λ key. StandsUnder self.now.slab nexus key) }
-        ensures absent { IfNone result (seat_of self.now nexus ≡ None) }
+    /// The place of the seat of a nexus, or else the place where it would stand.
+    fn place_of(&self, nexus: Nexus) -> Result<usize, usize>
+        ensures { IsPlace self.now.items.items nexus result }
     {
-        for (key, seat) in self.slab.iter() {
-            if is_same(&seat.nexus, &nexus) {
-                return Some(key);
-            }
-        }
-        None
+        place_of(self.items.as_slice(), nexus)
     }
 
     /// Whether no further nexus can be known.
     pub fn is_full(&self) -> bool
         ensures { result ≡ not (nat_lt (count_of self.now) KNOWN) }
     {
-        self.slab.len() >= MOST
+        self.items.len() >= MOST
     }
 
     /// Whether a nexus is known.
     pub fn is_known(&self, nexus: Nexus) -> bool
         ensures { result ≡ is_some (seat_of self.now nexus) }
     {
-        self.find(nexus).is_some()
+        self.place_of(nexus).is_ok()
     }
 
     /// Who has a nexus logged in.
     pub fn owner(&self, nexus: Nexus) -> Option<u64>
         ensures { result ≡ owner_in (seat_of self.now nexus) }
     {
-        let key = self.find(nexus)?;
-        self.slab.get(key)?.owner
+        match self.place_of(nexus) {
+            Ok(place) => self.items[place].owner,
+            Err(_) => None,
+        }
     }
 
     /// A nexus is logged in, and known from then on.
@@ -89,18 +83,17 @@ impl Seats {
         ensures seat { seat_of self.new ≡ set_at (seat_of self.old) nexus (Some (logged_in who nexus (seat_of self.old nexus))) }
         ensures count { count_of self.new ≡ (if is_some (seat_of self.old nexus) then count_of self.old else count_of self.old + 1) }
     {
-        match self.find(nexus) {
-            Some(key) => {
-                if let Some(seat) = self.slab.get_mut(key) {
-                    seat.owner = Some(who);
-                }
-            }
-            None => {
-                self.slab.insert_reserved(Seat {
-                    nexus,
-                    owner: Some(who),
-                    attentions: Attentions::fresh(),
-                });
+        match self.place_of(nexus) {
+            Ok(place) => self.items[place].owner = Some(who),
+            Err(place) => {
+                let _ = self.items.insert(
+                    place,
+                    Seat {
+                        nexus,
+                        owner: Some(who),
+                        attentions: Attentions::fresh(),
+                    },
+                );
             }
         }
     }
@@ -110,10 +103,8 @@ impl Seats {
         ensures seat { seat_of self.new ≡ set_at (seat_of self.old) nexus (option_map logged_out (seat_of self.old nexus)) }
         ensures count { count_of self.new ≡ count_of self.old }
     {
-        if let Some(key) = self.find(nexus) {
-            if let Some(seat) = self.slab.get_mut(key) {
-                seat.owner = None;
-            }
+        if let Ok(place) = self.place_of(nexus) {
+            self.items[place].owner = None;
         }
     }
 
@@ -125,8 +116,10 @@ impl Seats {
         ensures seat { seat_of self.new ≡ set_at (seat_of self.old) nexus (option_map told_first (seat_of self.old nexus)) }
         ensures count { count_of self.new ≡ count_of self.old }
     {
-        let key = self.find(nexus)?;
-        self.slab.get_mut(key)?.attentions.take()
+        match self.place_of(nexus) {
+            Ok(place) => self.items[place].attentions.take(),
+            Err(_) => None,
+        }
     }
 
     /// Raises the attentions of a PERSISTENT RESERVE OUT that the table has served last.
@@ -139,22 +132,42 @@ impl Seats {
         if change.stay_code.is_none() && change.removed_code.is_none() {
             return;
         }
-        tell_each(&mut self.slab, caller, table, change);
+        tell_each(self.items.as_mut_slice(), caller, table, change);
     }
 }
 
+/// The place of the seat of a nexus, or else the place where it would stand.
+fn place_of(seats: &[Seat], nexus: Nexus) -> Result<usize, usize>
+    requires { IsAscending seats.now }
+    ensures { IsPlace seats.now nexus result }
+{
+    let place = first_not_before(seats, nexus);
+    if place == seats.len() {
+        return Err(place);
+    }
+    if is_same(&seats[place].nexus, &nexus) {
+        Ok(place)
+    } else {
+        Err(place)
+    }
+}
+
+/// The number of seats whose nexuses come before this one.
+fn first_not_before(seats: &[Seat], nexus: Nexus) -> usize
+    requires { IsAscending seats.now }
+    ensures { Divides seats.now nexus result }
+{
+    seats.partition_point(|seat| stands_before(&seat.nexus, &nexus))
+}
+
 /// Raises what the nexus of each seat is told.
-fn tell_each(slab: &mut Slab<Seat>, caller: Nexus, table: &Table, change: &Change)
+fn tell_each(seats: &mut [Seat], caller: Nexus, table: &Table, change: &Change)
     requires stay { (c : Code) → change.now.stay_code ≡ Some c → is_attention c ≡ true }
     requires gone { (c : Code) → change.now.removed_code ≡ Some c → is_attention c ≡ true }
-    ensures told { (key : ℕ) → get slab.new key ≡ option_map (told_seat caller (standing_of table.now).pairs change.now.stay_code (removed_of table.now) change.now.removed_code) (get slab.old key) }
-    ensures len { slab_len slab.new ≡ slab_len slab.old }
-    ensures capacity { slab.new.capacity ≡ slab.old.capacity }
+    ensures { seats.new ≡ map (told_seat caller (standing_of table.now).pairs change.now.stay_code (removed_of table.now) change.now.removed_code) seats.old }
 {
-    for key in 0..slab.capacity() {
-        if let Some(seat) = slab.get_mut(key) {
-            seat.tell(caller, table, change);
-        }
+    for seat in seats.iter_mut() {
+        seat.tell(caller, table, change);
     }
 }
 

@@ -1,11 +1,17 @@
-use Rattle.std.proofs.Common.{sym}
-use Rattle.pr_core.proofs.SlotLaws.{mapped_more, mapped_vacant}
+use Rattle.std.proofs.Common.{◌∙◌, arith}
+use Rattle.pr_table.specs.Tables.{standing_of, removed_of}
+use Rattle.pr_core.specs.Telling.{told_seat}
+use Rattle.pr_core.proofs.SeatLaws.{as_long, changed_step, changed_all}
 use Rattle.pr_core.proofs.seats.tell_each.Goals as goal
-use Rattle.pr_core.proofs.seats.tell_each.Goals.{in-Some, in_default}
 
-pub loop-key-preserved : goal.loop-key-preserved
-loop-key-preserved c =
-    elim c.match-get_mut.branch [
-      | in-Some w ↦ rw w.slab-is (mapped_more _ _ c.loop-key.slab c.loop-key.key w.in-Some.seat.now w.tell.new.self (sym w.in-Some.ensures.value) w.tell.ensures c.loop-key.invariant)
-      | in_default w ↦ rw w.slab-is (mapped_vacant _ _ c.loop-key.slab c.loop-key.key (sym w.in_default.ensures.value) c.loop-key.invariant)
-    ]
+pub loop-seat-preserved : goal.loop-seat-preserved
+loop-seat-preserved c =
+    let f = told_seat c.args.caller (standing_of c.args.table.now).pairs c.args.change.now.stay_code (removed_of c.args.table.now) c.args.change.now.removed_code in
+    let long = as_long f c.args.seats.now c.loop-seat.seats c.loop-seat.seat-index c.loop-seat.invariant in
+    changed_step f c.args.seats.now c.loop-seat.seats c.loop-seat.seat-index _ _ c.loop-seat.invariant (omega (arith, long, c.loop-seat-test.true)) c.tell.ensures
+
+pub returns : goal.returns
+returns c =
+    let f = told_seat c.args.caller (standing_of c.args.table.now).pairs c.args.change.now.stay_code (removed_of c.args.table.now) c.args.change.now.removed_code in
+    let long = as_long f c.args.seats.now c.loop-seat.seats c.loop-seat.seat-index c.loop-seat.invariant in
+    c.loop-seat.invariant ∙ changed_all f c.args.seats.now c.loop-seat.seat-index (omega (arith, long, c.loop-seat-test.false))
