@@ -4,4 +4,5 @@ pub mod Records
 pub mod Beginnings
 pub mod Framings
 pub mod Coding
+pub mod Maskings
 mod Shown

@@ -2,6 +2,7 @@ pub mod Standings
 pub mod Senses
 pub mod Operations
 pub mod Cdbs
+pub mod Masks
 pub mod OutLists
 pub mod InReplies
 pub mod Frames
