@@ -74,7 +74,7 @@ admits_operation old new n lun cdb sent c reaches bad =
         w,
         p.0,
         past_unit w n lun op cdb command sent reaches.here p.1
-        ∙ given (operation_checks w op) (form_checks w op cdb ++ command_checks w command sent) (answer w (checking c)) (served w n lun command sent) (refuses.1 w),
+            ∙ given (operation_checks w op) (form_checks w op cdb ++ command_checks w command sent) (answer w (checking c)) (served w n lun command sent) (refuses.1 w),
       ),
     )
 
@@ -89,8 +89,8 @@ admits_form old new n lun cdb sent o c reaches yet bad =
         w,
         p.0,
         past_unit w n lun op cdb command sent reaches.here p.1
-        ∙ passed (operation_checks w op) (form_checks w op cdb ++ command_checks w command sent) (served w n lun command sent) (yet.1 op w refl)
-        ∙ given (form_checks w op cdb) (command_checks w command sent) (answer w (checking c)) (served w n lun command sent) (bad.1 w),
+            ∙ passed (operation_checks w op) (form_checks w op cdb ++ command_checks w command sent) (served w n lun command sent) (yet.1 op w refl)
+            ∙ given (form_checks w op cdb) (command_checks w command sent) (answer w (checking c)) (served w n lun command sent) (bad.1 w),
       ),
     )
 
@@ -109,8 +109,8 @@ admits_command old new n lun cdb sent o command (Ok a) reaches yet formed passes
       λ w depicts. let p = reaches.quiet w depicts in (
         p.0,
         past_unit w n lun op cdb (command_of op cdb) sent reaches.here p.1
-        ∙ past_form w n lun op cdb (command_of op cdb) sent (yet.1 op w refl) (formed.1 w)
-        ∙ own.1 w (served w n lun (command_of op cdb) sent),
+            ∙ past_form w n lun op cdb (command_of op cdb) sent (yet.1 op w refl) (formed.1 w)
+            ∙ own.1 w (served w n lun (command_of op cdb) sent),
       ),
     )
 admits_command old new n lun cdb sent o command (Err c) reaches yet formed bad =
@@ -122,8 +122,8 @@ admits_command old new n lun cdb sent o command (Err c) reaches yet formed bad =
         w,
         p.0,
         past_unit w n lun op cdb (command_of op cdb) sent reaches.here p.1
-        ∙ past_form w n lun op cdb (command_of op cdb) sent (yet.1 op w refl) (formed.1 w)
-        ∙ own.1 w n lun,
+            ∙ past_form w n lun op cdb (command_of op cdb) sent (yet.1 op w refl) (formed.1 w)
+            ∙ own.1 w n lun,
       ),
     )
 
@@ -143,7 +143,7 @@ serves_reserve old new n lun request list result buf reserves w command sent dep
       s.0,
       s.1,
       ap (λ (k : Command). served w n lun k sent) carries.1
-      ∙ ap (λ (l : OutList). reserve_out w n (acted LIMIT w.standing n (requested request l))) (sym carries.2) ∙ s.2 buf,
+          ∙ ap (λ (l : OutList). reserve_out w n (acted LIMIT w.standing n (requested request l))) (sym carries.2) ∙ s.2 buf,
     )
 
 pub enters_ok : (old mid new : State) (who : ℕ) (n : Nexus) (lun : ℕ) (cdb sent : List ℕ) (a : Admitted) (result : CommandOut) (buf : List ℕ) → owner_at old n ≡ Some who → Admits old mid n lun cdb sent (Ok a) → Serves mid new n lun a result buf

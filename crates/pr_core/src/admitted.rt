@@ -7,17 +7,8 @@ use pr_words::InService;
 pub enum Admitted {
     TestUnitReady,
     /// `allocation` counts bytes.
-    RequestSense {
-        descriptor: bool,
-        allocation: u8,
-    },
+    RequestSense { descriptor: bool, allocation: u8 },
     /// `allocation` counts bytes.
-    ReserveIn {
-        service: InService,
-        allocation: u16,
-    },
-    ReserveOut {
-        request: OutRequest,
-        list: OutList,
-    },
+    ReserveIn { service: InService, allocation: u16 },
+    ReserveOut { request: OutRequest, list: OutList },
 }

@@ -153,7 +153,8 @@ fn check_reserve_out(
 
 /// Whether a RESERVE has a scope that isn't the logical unit's, or a type that is none of the six.
 fn is_unreservable(request: &OutRequest) -> bool
-    ensures { result ≡ model.has_bad_service (out_service_code request.now.service) request.now.scope request.now.kind }
+    ensures { result ≡ model.has_bad_service
+        (out_service_code request.now.service) request.now.scope request.now.kind }
 {
     matches!(request.service, OutService::Reserve)
         && (request.scope != 0 || Kind::of(request.kind).is_none())

@@ -37,7 +37,9 @@ impl State {
         requires cdb { 0 < length cdb.now }
         requires room { 524288 ≤ length buf.old }
         requires sent { out_len ≤ length buf.old }
-        ensures enters { (who : ℕ) → owner_at self.old nexus ≡ Some who → Enters self.old self.new (entry who nexus (Commands lun cdb.now (take out_len buf.old)) (out_of result buf.new)) }
+        ensures enters { (who : ℕ) → owner_at self.old nexus ≡ Some who
+            → Enters self.old self.new (entry who nexus
+            (Commands lun cdb.now (take out_len buf.old)) (out_of result buf.new)) }
         ensures owner { owner_at self.new ≡ owner_at self.old }
         ensures proper { IsProper result }
     {
@@ -54,7 +56,8 @@ impl State {
         operation: Option<OperationCode>,
     ) -> Result<(), Code>
         requires known { is_some (seat_of self.old.seats nexus) ≡ true }
-        ensures passes { (op : ℕ) → operation ≡ operation_at op → PassesAttention self.old self.new nexus op result }
+        ensures passes { (op : ℕ) → operation ≡ operation_at op
+            → PassesAttention self.old self.new nexus op result }
         ensures owner { owner_at self.new ≡ owner_at self.old }
         ensures known { is_some (seat_of self.new.seats nexus) ≡ true }
     {
@@ -87,13 +90,7 @@ impl State {
     }
 
     /// A command that no check refuses. Its data-in goes to the front of the buffer.
-    fn serve(
-        &mut self,
-        nexus: Nexus,
-        lun: u16,
-        admitted: Admitted,
-        buf: &mut [u8],
-    ) -> CommandOut
+    fn serve(&mut self, nexus: Nexus, lun: u16, admitted: Admitted, buf: &mut [u8]) -> CommandOut
         requires known { is_some (seat_of self.old.seats nexus) ≡ true }
         requires room { 524288 ≤ length buf.old }
         ensures serves { Serves self.old self.new nexus lun admitted result buf.new }
@@ -134,7 +131,8 @@ impl State {
     fn write_reply(&self, service: InService, allocation: u16, buf: &mut [u8]) -> usize
         requires { 524288 ≤ length buf.old }
         ensures within { result ≤ 524288 }
-        ensures bytes { take result buf.new ≡ take allocation (reserve_in_data (in_service_code service) (standing_of self.now.table)) }
+        ensures bytes { take result buf.new ≡ take allocation
+            (reserve_in_data (in_service_code service) (standing_of self.now.table)) }
     {
         let allocation = usize::from(allocation);
         match service {
@@ -148,7 +146,8 @@ impl State {
     /// A PERSISTENT RESERVE OUT with its parameter list.
     fn reserve_out(&mut self, nexus: Nexus, request: &OutRequest, list: &OutList) -> CommandOut
         requires known { is_some (seat_of self.old.seats nexus) ≡ true }
-        ensures reserves { Reserves self.old self.new nexus (requested request.now list.now) result }
+        ensures reserves { Reserves self.old self.new nexus
+            (requested request.now list.now) result }
         ensures owner { owner_at self.new ≡ owner_at self.old }
         ensures proper { IsProper result }
     {

@@ -80,8 +80,10 @@ impl Seats {
     /// A nexus is logged in, and known from then on.
     pub fn log_in(&mut self, who: u64, nexus: Nexus)
         requires { is_some (seat_of self.old nexus) ≡ true ⊎ count_of self.old < KNOWN }
-        ensures seat { seat_of self.new ≡ set_at (seat_of self.old) nexus (Some (logged_in who nexus (seat_of self.old nexus))) }
-        ensures count { count_of self.new ≡ (if is_some (seat_of self.old nexus) then count_of self.old else count_of self.old + 1) }
+        ensures seat { seat_of self.new ≡ set_at (seat_of self.old) nexus
+            (Some (logged_in who nexus (seat_of self.old nexus))) }
+        ensures count { count_of self.new
+            ≡ (if is_some (seat_of self.old nexus) then count_of self.old else count_of self.old + 1) }
     {
         match self.place_of(nexus) {
             Ok(place) => self.items[place].owner = Some(who),
@@ -100,7 +102,8 @@ impl Seats {
 
     /// A nexus is logged out.
     pub fn log_out(&mut self, nexus: Nexus)
-        ensures seat { seat_of self.new ≡ set_at (seat_of self.old) nexus (option_map logged_out (seat_of self.old nexus)) }
+        ensures seat { seat_of self.new ≡ set_at (seat_of self.old) nexus
+            (option_map logged_out (seat_of self.old nexus)) }
         ensures count { count_of self.new ≡ count_of self.old }
     {
         if let Ok(place) = self.place_of(nexus) {
@@ -113,7 +116,8 @@ impl Seats {
         requires { is_some (seat_of self.old nexus) ≡ true }
         ensures first { result ≡ slice_get (attentions_in (seat_of self.old nexus)) 0 }
         ensures known { IfSome result (λ c. is_attention c ≡ true) }
-        ensures seat { seat_of self.new ≡ set_at (seat_of self.old) nexus (option_map told_first (seat_of self.old nexus)) }
+        ensures seat { seat_of self.new ≡ set_at (seat_of self.old) nexus
+            (option_map told_first (seat_of self.old nexus)) }
         ensures count { count_of self.new ≡ count_of self.old }
     {
         match self.place_of(nexus) {
@@ -126,7 +130,9 @@ impl Seats {
     pub fn tell(&mut self, caller: Nexus, table: &Table, change: &Change)
         requires stay { (c : Code) → change.now.stay_code ≡ Some c → is_attention c ≡ true }
         requires gone { (c : Code) → change.now.removed_code ≡ Some c → is_attention c ≡ true }
-        ensures seat { seat_of self.new ≡ (λ n. option_map (told_seat caller (standing_of table.now).pairs change.now.stay_code (removed_of table.now) change.now.removed_code) (seat_of self.old n)) }
+        ensures seat { seat_of self.new ≡ (λ n. option_map
+            (told_seat caller (standing_of table.now).pairs change.now.stay_code
+            (removed_of table.now) change.now.removed_code) (seat_of self.old n)) }
         ensures count { count_of self.new ≡ count_of self.old }
     {
         if change.stay_code.is_none() && change.removed_code.is_none() {
@@ -164,7 +170,8 @@ fn first_not_before(seats: &[Seat], nexus: Nexus) -> usize
 fn tell_each(seats: &mut [Seat], caller: Nexus, table: &Table, change: &Change)
     requires stay { (c : Code) → change.now.stay_code ≡ Some c → is_attention c ≡ true }
     requires gone { (c : Code) → change.now.removed_code ≡ Some c → is_attention c ≡ true }
-    ensures { seats.new ≡ map (told_seat caller (standing_of table.now).pairs change.now.stay_code (removed_of table.now) change.now.removed_code) seats.old }
+    ensures { seats.new ≡ map (told_seat caller (standing_of table.now).pairs change.now.stay_code
+        (removed_of table.now) change.now.removed_code) seats.old }
 {
     for seat in seats.iter_mut() {
         seat.tell(caller, table, change);
@@ -176,7 +183,8 @@ impl Seat {
     fn tell(&mut self, caller: Nexus, table: &Table, change: &Change)
         requires stay { (c : Code) → change.now.stay_code ≡ Some c → is_attention c ≡ true }
         requires gone { (c : Code) → change.now.removed_code ≡ Some c → is_attention c ≡ true }
-        ensures { self.new ≡ told_seat caller (standing_of table.now).pairs change.now.stay_code (removed_of table.now) change.now.removed_code self.old }
+        ensures { self.new ≡ told_seat caller (standing_of table.now).pairs change.now.stay_code
+            (removed_of table.now) change.now.removed_code self.old }
     {
         if is_same(&self.nexus, &caller) {
             return;

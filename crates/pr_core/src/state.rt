@@ -41,7 +41,8 @@ impl State {
 
     /// The code of the first refusal that applies, or 0.
     pub fn login(&mut self, who: u64, version: u8, nexus: Nexus) -> u8
-        ensures enters { Enters self.old self.new (entry who nexus (Login version) (Login_code result)) }
+        ensures enters { Enters self.old self.new
+            (entry who nexus (Login version) (Login_code result)) }
         ensures accepted { result ≡ 0 → owner_at self.new nexus ≡ Some who }
         ensures refused { (result ≡ 0 → ⊥) → self.new ≡ self.old }
         ensures others { KeepsOthersAt who self.old self.new }

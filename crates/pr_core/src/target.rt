@@ -62,11 +62,13 @@ impl<M: Medium, D: Disk> Core<M, D> {
     ///
     /// Want of memory, with the parts handed back.
     pub fn open(alloc: Global, medium: M, disk: D) -> Result<Core<M, D>, (OpenFault, M, D)>
-        ensures stands { IfOk result (λ c. (m : Blocks) → m.count ≡ M.count medium → StandsFor c (opened m (opening_of c))) }
+        ensures stands { IfOk result (λ c. (m : Blocks) → m.count ≡ M.count medium
+            → StandsFor c (opened m (opening_of c))) }
         ensures opening { IfOk result (λ c. opening_of c ≡ Nothing) }
         ensures blocks { IfOk result (λ c. blocks_of c ≡ M.count medium) }
         ensures over { IfOk result (λ c. (medium_of c ≡ medium) × (disk_of c ≡ disk)) }
-        ensures counts { IfOk result (λ c. (c.opening.medium_faults ≡ M.faults medium) × (c.opening.disk_faults ≡ D.faults disk)) }
+        ensures counts { IfOk result (λ c. (c.opening.medium_faults ≡ M.faults medium)
+            × (c.opening.disk_faults ≡ D.faults disk)) }
         ensures parts { IfErr result (λ e. (e.1 ≡ medium) × (e.2 ≡ disk)) }
     {
         match Room::new(alloc) {
@@ -78,11 +80,13 @@ impl<M: Medium, D: Disk> Core<M, D> {
     /// The same in memory that was taken before.
     pub fn open_in(room: Room, medium: M, disk: D) -> Core<M, D>
         requires { IsVacant room }
-        ensures stands { (m : Blocks) → m.count ≡ M.count medium → StandsFor result (opened m (opening_of result)) }
+        ensures stands { (m : Blocks) → m.count ≡ M.count medium
+            → StandsFor result (opened m (opening_of result)) }
         ensures opening { opening_of result ≡ Nothing }
         ensures blocks { blocks_of result ≡ M.count medium }
         ensures over { (medium_of result ≡ medium) × (disk_of result ≡ disk) }
-        ensures counts { (result.opening.medium_faults ≡ M.faults medium) × (result.opening.disk_faults ≡ D.faults disk) }
+        ensures counts { (result.opening.medium_faults ≡ M.faults medium)
+            × (result.opening.disk_faults ≡ D.faults disk) }
     {
         let Room { alloc, state } = room;
         let opening = Opening {
@@ -118,7 +122,8 @@ impl<M: Medium, D: Disk> Core<M, D> {
     /// that applies: 4, the version isn't 1; 2, the port isn't 1 to 16; 1, the nexus is logged in;
     /// 3, it isn't known and 256 others are.
     pub fn login(&mut self, who: u64, version: u8, nexus: Nexus) -> u8
-        ensures entry { Extends self.old self.new (entry who nexus (Login version) (Login_code result) ∷ []) }
+        ensures entry { Extends self.old self.new
+            (entry who nexus (Login version) (Login_code result) ∷ []) }
         ensures accepted { result ≡ 0 → owner_of self.new nexus ≡ Some who }
         ensures refused { (result ≡ 0 → ⊥) → self.new ≡ self.old }
         ensures others { KeepsOthers who self.old self.new }
@@ -150,7 +155,9 @@ impl<M: Medium, D: Disk> Core<M, D> {
         requires cdb { (0 < length cdb.now) × (length cdb.now ≤ 16) }
         requires room { 524288 ≤ length buf.old }
         requires sent { out_len ≤ length buf.old }
-        ensures entry { Extends self.old self.new (entry who nexus (Command lun cdb.now (take out_len buf.old)) (out_of result buf.new) ∷ []) }
+        ensures entry { Extends self.old self.new
+            (entry who nexus (Command lun cdb.now (take out_len buf.old)) (out_of result buf.new)
+            ∷ []) }
         ensures owner { owner_of self.new ≡ owner_of self.old }
         ensures proper { IsProper result }
     {

@@ -115,7 +115,8 @@ impl<T: Stands> Gate<T> {
         ensures ground { IfOk result (λ turn. ground_of pass.new ≡ Some (T.ground turn.value)) }
         ensures begins { IfOk result (λ _. IsPrefix (seen_of pass.old) (seen_of pass.new)) }
         ensures own { IfOk result (λ _. own_of pass.new ≡ own_of pass.old) }
-        ensures spent { IfErr result (λ spent. (2 ^ 62 ≤ spent.ticket) × IsUnchanged pass.old pass.new) }
+        ensures spent { IfErr result (λ spent. (2 ^ 62 ≤ spent.ticket)
+            × IsUnchanged pass.old pass.new) }
     {
         self.latch.lock(rt);
         if let Some(ticket) = permit(&self.table.shared, &mut pass.seat) {
@@ -189,7 +190,8 @@ impl<T: Stands> Gate<T> {
         T: Drop,
         requires gate { IsOf self pass }
         ensures value { IfOk result (λ value. IsLeft T.number T.ground T.stands pass value) }
-        ensures lost { IfErr result (λ lost. (length (seen_of pass) ≤ lost.serving) × (lost.serving < lost.ticket)) }
+        ensures lost { IfErr result (λ lost. (length (seen_of pass) ≤ lost.serving)
+            × (lost.serving < lost.ticket)) }
     {
         let Gate { table, latch: _ } = self;
         let Pass {
@@ -223,7 +225,8 @@ fn value_of<T, E: Drop>(held: Option<Held<T, E>>) -> T
 
 // The one slot of a table, with the value and no entry.
 fn row_of<T, E: Drop>(alloc: Global, value: T) -> Result<Vec<Option<Held<T, E>>>, T>
-    ensures row { IfOk result (λ row. row.items ≡ Some (record { value = value; made = None }) ∷ []) }
+    ensures row { IfOk result (λ row. row.items ≡ Some (record { value = value; made = None })
+        ∷ []) }
     ensures back { IfErr result (λ back. back ≡ value) }
 {
     let mut row = Vec::new(alloc);

@@ -18,7 +18,9 @@ pub(crate) fn permit<T: Stands>(board: &Board<T>, seat: &mut Place<T>) -> Option
     requires table { (seat.old.table_id ≡ board.now.table_id) × IsSized board.now.table_id }
     requires free { IsIdle seat.old }
     ensures same { IsSameSeat seat.old seat.new }
-    ensures ticket { MatchOption result (seat.new.me ≡ (record seat.old.me.0 { stage = Permitted }, [])) (λ n. (2 ^ 62 ≤ n) × (seat.new.me ≡ seat.old.me)) }
+    ensures ticket { MatchOption result (seat.new.me
+        ≡ (record seat.old.me.0 { stage = Permitted }, []))
+        (λ n. (2 ^ 62 ≤ n) × (seat.new.me ≡ seat.old.me)) }
 {
     let ticket = board.load::<Permit>(seat, 0);
     if ticket >= TICKET_LIMIT {
@@ -33,7 +35,10 @@ pub(crate) fn draw<T: Stands>(board: &Board<T>, seat: &mut Place<T>) -> u64
     requires table { (seat.old.table_id ≡ board.now.table_id) × IsSized board.now.table_id }
     requires permitted { (seat.old.me.0.stage ≡ Permitted) × IsSome seat.old.me.0.number }
     ensures same { IsSameSeat seat.old seat.new }
-    ensures ticket { seat.new.me ≡ (record seat.old.me.0 { stage = Waiting result }, seat.old.me.1) }
+    ensures ticket { seat.new.me ≡ (
+      record seat.old.me.0 { stage = Waiting result },
+      seat.old.me.1,
+    ) }
 {
     board.fetch_add::<Draw>(seat, 0, 1)
 }
@@ -43,7 +48,8 @@ pub(crate) fn look<T: Stands>(board: &Board<T>, seat: &mut Place<T>, ticket: u64
     requires table { (seat.old.table_id ≡ board.now.table_id) × IsSized board.now.table_id }
     requires waits { (seat.old.me.0.stage ≡ Waiting ticket) × IsSome seat.old.me.0.ground }
     ensures same { IsSameSeat seat.old seat.new }
-    ensures inside { MatchBool result (IsIn T.number T.ground T.stands seat.old.me ticket seat.new.me) (seat.new.me ≡ seat.old.me) }
+    ensures inside { MatchBool result (IsIn T.number T.ground T.stands seat.old.me ticket
+        seat.new.me) (seat.new.me ≡ seat.old.me) }
 {
     board.load::<Look<T>>(seat, 1) == ticket
 }
@@ -69,7 +75,8 @@ pub(crate) fn take_out<T: Stands>(board: &Board<T>, seat: &mut Place<T>) -> T
     requires table { (seat.old.table_id ≡ board.now.table_id) × IsSized board.now.table_id }
     requires inside { (held : Held T T.Entry) × (seat.old.me.1 ≡ (0, Some held) ∷ []) }
     ensures same { IsSameSeat seat.old seat.new }
-    ensures out { (seat.new.me ≡ (seat.old.me.0, (0, None) ∷ [])) × ((held : Held T T.Entry) → seat.old.me.1 ≡ (0, Some held) ∷ [] → held.value ≡ result) }
+    ensures out { (seat.new.me ≡ (seat.old.me.0, (0, None) ∷ []))
+        × ((held : Held T T.Entry) → seat.old.me.1 ≡ (0, Some held) ∷ [] → held.value ≡ result) }
 {
     let Held { value, made: _ } = board.exchange(seat, 0, None).unwrap();
     value
@@ -88,7 +95,14 @@ pub(crate) fn publish<T: Stands>(
     requires names { seat.old.me.0.number ≡ Some (T.number made) }
     requires stands { T.stands value (seat.old.me.0.seen ++ made ∷ []) }
     ensures same { IsSameSeat seat.old seat.new }
-    ensures left { seat.new.me ≡ (record seat.old.me.0 { seen = seat.old.me.0.seen ++ made ∷ []; mine = seat.old.me.0.mine ++ made ∷ []; stage = Idle }, []) }
+    ensures left { seat.new.me ≡ (
+      record seat.old.me.0 {
+        seen = seat.old.me.0.seen ++ made ∷ [];
+        mine = seat.old.me.0.mine ++ made ∷ [];
+        stage = Idle;
+      },
+      [],
+    ) }
     ensures count { (result ≡ length seat.old.me.0.seen) × (result + 1 < 18446744073709551616) }
 {
     let held = Held {
@@ -104,8 +118,10 @@ pub(crate) fn publish<T: Stands>(
 pub(crate) fn another<T: Stands>(board: &Board<T>, seat: &mut Place<T>) -> Place<T>
     requires table { (seat.old.table_id ≡ board.now.table_id) × IsSized board.now.table_id }
     requires spare { 0 < seat.old.me.0.spare }
-    ensures same { IsSameSeat seat.old seat.new × (seat.new.me ≡ (elder seat.old.me.0, seat.old.me.1)) }
-    ensures other { (result.table_id ≡ seat.old.table_id) × (result.me ≡ (newer seat.old.me.0, [])) }
+    ensures same { IsSameSeat seat.old seat.new
+        × (seat.new.me ≡ (elder seat.old.me.0, seat.old.me.1)) }
+    ensures other { (result.table_id ≡ seat.old.table_id)
+        × (result.me ≡ (newer seat.old.me.0, [])) }
 {
     board.split_seat::<Another>(seat)
 }
@@ -114,7 +130,8 @@ pub(crate) fn another<T: Stands>(board: &Board<T>, seat: &mut Place<T>) -> Place
 pub(crate) fn note_of<T: Stands>(board: &Board<T>, seat: &mut Place<T>) -> Place<T>
     requires table { (seat.old.table_id ≡ board.now.table_id) × IsSized board.now.table_id }
     ensures same { IsSameSeat seat.old seat.new × (seat.new.me ≡ seat.old.me) }
-    ensures other { (result.table_id ≡ seat.old.table_id) × (result.me ≡ (noted seat.old.me.0, [])) }
+    ensures other { (result.table_id ≡ seat.old.table_id)
+        × (result.me ≡ (noted seat.old.me.0, [])) }
 {
     board.split_seat::<Noting>(seat)
 }
@@ -122,8 +139,10 @@ pub(crate) fn note_of<T: Stands>(board: &Board<T>, seat: &mut Place<T>) -> Place
 /// Joins a note with a pass.
 pub(crate) fn join<T: Stands>(board: &Board<T>, seat: &mut Place<T>, note: Place<T>)
     requires table { (seat.old.table_id ≡ board.now.table_id) × IsSized board.now.table_id }
-    requires note { (note.table_id ≡ board.now.table_id) × (note.me.1 ≡ []) × (note.me.0.number ≡ None) × (note.me.0.stage ≡ Idle) }
-    ensures same { IsSameSeat seat.old seat.new × (seat.new.me ≡ (joined_view seat.old.me.0 note.me.0, seat.old.me.1)) }
+    requires note { (note.table_id ≡ board.now.table_id) × (note.me.1 ≡ [])
+        × (note.me.0.number ≡ None) × (note.me.0.stage ≡ Idle) }
+    ensures same { IsSameSeat seat.old seat.new
+        × (seat.new.me ≡ (joined_view seat.old.me.0 note.me.0, seat.old.me.1)) }
     ensures told { Told T.number seat.new.me.0 }
 {
     board.join_seat::<Meeting>(seat, note);

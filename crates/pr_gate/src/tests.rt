@@ -80,7 +80,8 @@ fn take_all_turns<R: Threads + Wait + Sync>(
             ensures { IsNoteOf gate.entry.now result }
         { take_turns(rt, gate, one) },
         move || -> Pass<Tally>
-            requires { IsSync R.row × IsOf gate.now first × IsFree first × (0 < threads) × (threads - 1 ≤ spare_of first) }
+            requires { IsSync R.row × IsOf gate.now first × IsFree first × (0 < threads)
+                × (threads - 1 ≤ spare_of first) }
             ensures { IsOf gate.entry.now result × IsFree result }
         { take_all_turns(rt, gate, first, threads - 1) },
     );

@@ -47,7 +47,8 @@ impl Blocks {
     pub(crate) fn write(&mut self, lba: u64, block: &[u8; 512])
         requires { lba < length self.old.bytes.items / 512 }
         ensures written { block_at self.new.bytes.items lba ≡ block.now }
-        ensures others { OthersStay (block_at self.old.bytes.items) (block_at self.new.bytes.items) lba }
+        ensures others { OthersStay (block_at self.old.bytes.items)
+            (block_at self.new.bytes.items) lba }
         ensures size { length self.new.bytes.items ≡ length self.old.bytes.items }
     {
         let at = lba as usize * BLOCK;

@@ -63,10 +63,15 @@ impl Source for MemSource {
 
     fn take(&mut self, buf: &mut [u8]) -> Result<usize, Failed>
         ensures count { IfOk result (λ n. n ≤ length buf.old) }
-        ensures bytes { MovesInto (⟦<MemSource as Source>⟧.rest self.old) (⟦<MemSource as Source>⟧.rest self.new) result buf.new }
-        ensures end { IfOk result (λ n. HasEnded (⟦<MemSource as Source>⟧.rest self.new) n (length buf.old)) }
-        ensures cause { HasCause (⟦<MemSource as Source>⟧.faults self.old) (⟦<MemSource as Source>⟧.faults self.new) result }
-        ensures amount { IfOk result (λ n. n ≡ min (min (length self.old.bytes.items - self.old.at) (length buf.old)) self.old.most) }
+        ensures bytes { MovesInto (⟦<MemSource as Source>⟧.rest self.old)
+            (⟦<MemSource as Source>⟧.rest self.new) result buf.new }
+        ensures end { IfOk result (λ n. HasEnded (⟦<MemSource as Source>⟧.rest self.new) n
+            (length buf.old)) }
+        ensures cause { HasCause (⟦<MemSource as Source>⟧.faults self.old)
+            (⟦<MemSource as Source>⟧.faults self.new) result }
+        ensures amount { IfOk result (λ n. n
+            ≡ min (min (length self.old.bytes.items - self.old.at)
+            (length buf.old)) self.old.most) }
         ensures listed { IsErr result ↔ IsToFail self.old.calls.failing.items self.old.calls.made }
         ensures made { self.new.calls.made ≡ next_call self.old.calls.made }
         ensures failing { self.new.calls.failing ≡ self.old.calls.failing }
@@ -151,12 +156,15 @@ impl Sink for MemSink {
     fn put(&mut self, piece: &[u8]) -> Result<usize, Failed>
         ensures count { IfOk result (λ n. n ≤ length piece.now) }
         ensures some { IfOk result (λ n. 0 < length piece.now → 0 < n) }
-        ensures bytes { Reaches (⟦<MemSink as Sink>⟧.written self.old) (⟦<MemSink as Sink>⟧.written self.new) result piece.now }
-        ensures cause { HasCause (⟦<MemSink as Sink>⟧.faults self.old) (⟦<MemSink as Sink>⟧.faults self.new) result }
+        ensures bytes { Reaches (⟦<MemSink as Sink>⟧.written self.old)
+            (⟦<MemSink as Sink>⟧.written self.new) result piece.now }
+        ensures cause { HasCause (⟦<MemSink as Sink>⟧.faults self.old)
+            (⟦<MemSink as Sink>⟧.faults self.new) result }
         ensures amount { IfOk result (λ n. n ≡ min (length piece.now) self.old.most) }
         ensures listed { IsToFail self.old.calls.failing.items self.old.calls.made → IsErr result }
         ensures starving { self.old.starved < self.new.starved → IsErr result }
-        ensures why { IsErr result → IsToFail self.old.calls.failing.items self.old.calls.made ⊎ Rose self.old.starved self.new.starved }
+        ensures why { IsErr result → IsToFail self.old.calls.failing.items self.old.calls.made
+            ⊎ Rose self.old.starved self.new.starved }
         ensures starved { self.old.starved ≤ self.new.starved }
         ensures made { self.new.calls.made ≡ next_call self.old.calls.made }
         ensures failing { self.new.calls.failing ≡ self.old.calls.failing }
@@ -226,10 +234,14 @@ impl Medium for MemMedium {
 
     fn read_block(&mut self, lba: u64, block: &mut [u8; 512]) -> Result<(), Failed>
         requires { lba < ⟦<MemMedium as Medium>⟧.count self.old }
-        ensures given { ReadsBlock (⟦<MemMedium as Medium>⟧.contents self.old) lba result block.new }
-        ensures contents { ⟦<MemMedium as Medium>⟧.contents self.new ≡ ⟦<MemMedium as Medium>⟧.contents self.old }
-        ensures count { ⟦<MemMedium as Medium>⟧.count self.new ≡ ⟦<MemMedium as Medium>⟧.count self.old }
-        ensures cause { HasCause (⟦<MemMedium as Medium>⟧.faults self.old) (⟦<MemMedium as Medium>⟧.faults self.new) result }
+        ensures given { ReadsBlock (⟦<MemMedium as Medium>⟧.contents self.old) lba result
+            block.new }
+        ensures contents { ⟦<MemMedium as Medium>⟧.contents self.new
+            ≡ ⟦<MemMedium as Medium>⟧.contents self.old }
+        ensures count { ⟦<MemMedium as Medium>⟧.count self.new
+            ≡ ⟦<MemMedium as Medium>⟧.count self.old }
+        ensures cause { HasCause (⟦<MemMedium as Medium>⟧.faults self.old)
+            (⟦<MemMedium as Medium>⟧.faults self.new) result }
         ensures listed { IsErr result ↔ IsToFail self.old.calls.failing.items self.old.calls.made }
         ensures made { self.new.calls.made ≡ next_call self.old.calls.made }
         ensures failing { self.new.calls.failing ≡ self.old.calls.failing }
@@ -243,9 +255,12 @@ impl Medium for MemMedium {
 
     fn write_block(&mut self, lba: u64, block: &[u8; 512]) -> Result<(), Failed>
         requires { lba < ⟦<MemMedium as Medium>⟧.count self.old }
-        ensures contents { WritesBlock (⟦<MemMedium as Medium>⟧.contents self.old) (⟦<MemMedium as Medium>⟧.contents self.new) lba result block.now }
-        ensures count { ⟦<MemMedium as Medium>⟧.count self.new ≡ ⟦<MemMedium as Medium>⟧.count self.old }
-        ensures cause { HasCause (⟦<MemMedium as Medium>⟧.faults self.old) (⟦<MemMedium as Medium>⟧.faults self.new) result }
+        ensures contents { WritesBlock (⟦<MemMedium as Medium>⟧.contents self.old)
+            (⟦<MemMedium as Medium>⟧.contents self.new) lba result block.now }
+        ensures count { ⟦<MemMedium as Medium>⟧.count self.new
+            ≡ ⟦<MemMedium as Medium>⟧.count self.old }
+        ensures cause { HasCause (⟦<MemMedium as Medium>⟧.faults self.old)
+            (⟦<MemMedium as Medium>⟧.faults self.new) result }
         ensures listed { IsErr result ↔ IsToFail self.old.calls.failing.items self.old.calls.made }
         ensures made { self.new.calls.made ≡ next_call self.old.calls.made }
         ensures failing { self.new.calls.failing ≡ self.old.calls.failing }

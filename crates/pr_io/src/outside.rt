@@ -88,7 +88,8 @@ pub trait Medium {
     /// Where the medium has failed. The block may then hold anything.
     fn write_block(&mut self, lba: u64, block: &[u8; 512]) -> Result<(), Failed>
         requires { lba < count self.old }
-        ensures contents { WritesBlock (contents self.old) (contents self.new) lba result block.now }
+        ensures contents { WritesBlock (contents self.old)
+            (contents self.new) lba result block.now }
         ensures count { count self.new ≡ count self.old }
         ensures cause { HasCause (faults self.old) (faults self.new) result };
 

@@ -15,8 +15,10 @@ use crate::{Failed, Source};
 /// buffer has room for, and how many isn't told.
 pub fn read_up_to<S: Source>(source: &mut S, buf: &mut [u8]) -> Result<usize, Failed>
     ensures count { IfOk result (λ n. n ≤ length buf.old) }
-    ensures took { IfOk result (λ n. Took (S.rest source.old) (S.rest source.new) (take n buf.new)) }
-    ensures took_fewer { OnErr result (TookFewer (S.rest source.old) (S.rest source.new) (length buf.old)) }
+    ensures took { IfOk result (λ n. Took (S.rest source.old) (S.rest source.new)
+        (take n buf.new)) }
+    ensures took_fewer { OnErr result (TookFewer (S.rest source.old) (S.rest source.new)
+        (length buf.old)) }
     ensures short { IfOk result (λ n. EndedShort (S.rest source.new) n (length buf.old)) }
     ensures cause { HasCause (S.faults source.old) (S.faults source.new) result }
     ensures empty { length buf.old ≡ 0 → (result ≡ Ok 0) × (source.new ≡ source.old) }

@@ -54,9 +54,11 @@ impl<R: Read + Drop> StdinSource<R> {
     /// Reads ahead, where nothing is held.
     fn read_ahead(&mut self) -> Result<(), Failed>
         ensures front { self.new.from ≡ 0 }
-        ensures told { OnOk result (Consumes (R.remaining self.old.reader) (R.remaining self.new.reader) (take self.new.to self.new.ahead.items)) }
+        ensures told { OnOk result (Consumes (R.remaining self.old.reader)
+            (R.remaining self.new.reader) (take self.new.to self.new.ahead.items)) }
         ensures end { OnOk result (self.new.to ≡ 0 → IsAtEnd (R.remaining self.new.reader)) }
-        ensures kept { OnErr result (Keeps (R.remaining self.old.reader) (R.remaining self.new.reader)) }
+        ensures kept { OnErr result (Keeps (R.remaining self.old.reader)
+            (R.remaining self.new.reader)) }
         ensures none { OnErr result (self.new.to ≡ 0) }
         ensures cause { HasCause self.old.faults.count self.new.faults.count result }
     {
@@ -69,7 +71,8 @@ impl<R: Read + Drop> StdinSource<R> {
     /// Moves what is held into the front of the buffer, as far as it has room.
     fn give(&mut self, buf: &mut [u8]) -> usize
         ensures count { result ≤ length buf.old }
-        ensures held { slice_range self.old.ahead.items self.old.from self.old.to ≡ take result buf.new ++ slice_range self.new.ahead.items self.new.from self.new.to }
+        ensures held { slice_range self.old.ahead.items self.old.from self.old.to
+            ≡ take result buf.new ++ slice_range self.new.ahead.items self.new.from self.new.to }
         ensures none { result ≡ 0 → 0 < length buf.old → self.old.from ≡ self.old.to }
         ensures reader { self.new.reader ≡ self.old.reader }
         ensures faults { self.new.faults.count ≡ self.old.faults.count }
@@ -92,7 +95,9 @@ impl<R: Read + Drop> Source for StdinSource<R> {
         ensures bytes { MovesInto None None result buf.new }
         ensures end { IfOk result (λ n. HasEnded None n (length buf.old)) }
         ensures cause { HasCause self.old.faults.count self.new.faults.count result }
-        ensures told { ReadConsumes (left_of self.old.ahead.items self.old.from self.old.to (R.remaining self.old.reader)) (left_of self.new.ahead.items self.new.from self.new.to (R.remaining self.new.reader)) result buf.new }
+        ensures told { ReadConsumes (left_of self.old.ahead.items self.old.from self.old.to
+            (R.remaining self.old.reader)) (left_of self.new.ahead.items self.new.from self.new.to
+            (R.remaining self.new.reader)) result buf.new }
     {
         if self.from < self.to || buf.is_empty() {
             return Ok(self.give(buf));
@@ -138,7 +143,8 @@ impl<W: Write + Drop> Sink for StdoutSink<W> {
         ensures some { IfOk result (λ n. 0 < length piece.now → 0 < n) }
         ensures bytes { Reaches None None result piece.now }
         ensures cause { HasCause self.old.faults.count self.new.faults.count result }
-        ensures told { WriteAppends (W.contents self.old.writer) (W.contents self.new.writer) result piece.now }
+        ensures told { WriteAppends (W.contents self.old.writer)
+            (W.contents self.new.writer) result piece.now }
     {
         let n = write_some(&mut self.writer, piece, &mut self.faults)?;
         if n == 0 && !piece.is_empty() {

@@ -28,8 +28,10 @@ pub fn put_all<K: Sink>(sink: &mut K, piece: &[u8]) -> Result<(), Failed>
 ///
 /// Where the sink fails. A front of the two, one after the other, was put then.
 pub fn put_two<K: Sink>(sink: &mut K, first: &[u8], second: &[u8]) -> Result<(), Failed>
-    ensures all { OnOk result (Put (K.written sink.old) (K.written sink.new) (first.now ++ second.now)) }
-    ensures some { OnErr result (PutSome (K.written sink.old) (K.written sink.new) (first.now ++ second.now)) }
+    ensures all { OnOk result (Put (K.written sink.old) (K.written sink.new)
+        (first.now ++ second.now)) }
+    ensures some { OnErr result (PutSome (K.written sink.old) (K.written sink.new)
+        (first.now ++ second.now)) }
     ensures cause { HasCause (K.faults sink.old) (K.faults sink.new) result }
 {
     put_all(sink, first)?;
@@ -47,8 +49,10 @@ pub fn put_three<K: Sink>(
     second: &[u8],
     third: &[u8],
 ) -> Result<(), Failed>
-    ensures all { OnOk result (Put (K.written sink.old) (K.written sink.new) (first.now ++ (second.now ++ third.now))) }
-    ensures some { OnErr result (PutSome (K.written sink.old) (K.written sink.new) (first.now ++ (second.now ++ third.now))) }
+    ensures all { OnOk result (Put (K.written sink.old) (K.written sink.new)
+        (first.now ++ (second.now ++ third.now))) }
+    ensures some { OnErr result (PutSome (K.written sink.old) (K.written sink.new)
+        (first.now ++ (second.now ++ third.now))) }
     ensures cause { HasCause (K.faults sink.old) (K.faults sink.new) result }
 {
     put_all(sink, first)?;

@@ -20,31 +20,40 @@ ghost use Rattle.pr_model.specs.Keeping.{Kept, kept, same_kept, keeps_by, looks_
 #[tactic(auto, using(crate::proofs::Cases::alone, crate::proofs::Cases::preempts, crate::proofs::Cases::one_answer))]
 pub fn preempt_has_one_case()
     ensures alone { (s : Standing) (k : ℕ) (c d : Case) → Applies s k c → Applies s k d → c ≡ d }
-    ensures some { (s : Standing) (n : Nexus) (scope kind k : ℕ) → Preempts s n scope kind k (preempt s n scope kind k) }
-    ensures one { (s : Standing) (n : Nexus) (scope kind k : ℕ) (a : Acted) → Preempts s n scope kind k a → a ≡ preempt s n scope kind k }
+    ensures some { (s : Standing) (n : Nexus) (scope kind k : ℕ)
+        → Preempts s n scope kind k (preempt s n scope kind k) }
+    ensures one { (s : Standing) (n : Nexus) (scope kind k : ℕ) (a : Acted)
+        → Preempts s n scope kind k a → a ≡ preempt s n scope kind k }
 {}
 
 /// Of each PERSISTENT RESERVE OUT exactly one rule applies, and it has exactly one answer, which
 /// `acted` is.
 #[tactic(auto, using(crate::proofs::Rules::one_rule, crate::proofs::Rules::acts, crate::proofs::Rules::one_act))]
 pub fn reserve_out_has_one_rule()
-    ensures alone { (limit : ℕ) (s : Standing) (n : Nexus) (o : ReserveOut) (r t : Rule) → IsRule limit s n o r → IsRule limit s n o t → r ≡ t }
-    ensures some { (limit : ℕ) (s : Standing) (n : Nexus) (o : ReserveOut) → o.action ≤ 6 → Acts limit s n o (acted limit s n o) }
-    ensures one { (limit : ℕ) (s : Standing) (n : Nexus) (o : ReserveOut) (a : Acted) → Acts limit s n o a → a ≡ acted limit s n o }
+    ensures alone { (limit : ℕ) (s : Standing) (n : Nexus) (o : ReserveOut) (r t : Rule)
+        → IsRule limit s n o r → IsRule limit s n o t → r ≡ t }
+    ensures some { (limit : ℕ) (s : Standing) (n : Nexus) (o : ReserveOut) → o.action ≤ 6
+        → Acts limit s n o (acted limit s n o) }
+    ensures one { (limit : ℕ) (s : Standing) (n : Nexus) (o : ReserveOut) (a : Acted)
+        → Acts limit s n o a → a ≡ acted limit s n o }
 {}
 
 /// Registrants stay well formed: within the limit, in order, with keys other than zero, and each
 /// reservation holder registered.
 #[tactic(auto, using(crate::proofs::WellFormed::well_formed))]
 pub fn registrants_stay_well_formed()
-    ensures { (limit : ℕ) (s : Standing) (n : Nexus) (o : ReserveOut) → IsWellFormed limit s → IsWellFormed limit (acted limit s n o).standing }
+    ensures { (limit : ℕ) (s : Standing) (n : Nexus) (o : ReserveOut) → IsWellFormed limit s
+        → IsWellFormed limit (acted limit s n o).standing }
 {}
 
 /// Whether an act changed what is kept is told by the flags, the reservation, the number of
 /// registrations and the caller's key.
 #[tactic(auto, using(crate::proofs::Puts::acted_keeps))]
 pub fn what_is_kept()
-    ensures { (limit : ℕ) (s : Standing) (n : Nexus) (o : ReserveOut) (t : Standing) → IsAscending s.pairs → t ≡ (acted limit s n o).standing → not (same_kept (kept s) (kept t)) ≡ keeps_by s.preserve t.preserve (looks_same s.pairs t.pairs n) (same_reservation s.reservation t.reservation) }
+    ensures { (limit : ℕ) (s : Standing) (n : Nexus) (o : ReserveOut) (t : Standing)
+        → IsAscending s.pairs → t ≡ (acted limit s n o).standing
+        → not (same_kept (kept s) (kept t)) ≡ keeps_by s.preserve t.preserve
+        (looks_same s.pairs t.pairs n) (same_reservation s.reservation t.reservation) }
 {}
 
 /// Two values of what is kept are one just where `same_kept` says so.
@@ -57,17 +66,25 @@ pub fn same_kept_is_equality()
 /// A PERSISTENT RESERVE OUT that isn't GOOD changes nothing, and removes nobody.
 #[tactic(auto, using(crate::proofs::Refusals::refused_stays))]
 pub fn a_refusal_changes_nothing()
-    ensures { (limit : ℕ) (s : Standing) (n : Nexus) (o : ReserveOut) → ((acted limit s n o).verdict ≡ Good → ⊥) → ((acted limit s n o).standing ≡ s) × ((acted limit s n o).removed ≡ []) }
+    ensures { (limit : ℕ) (s : Standing) (n : Nexus) (o : ReserveOut)
+        → ((acted limit s n o).verdict ≡ Good → ⊥) → ((acted limit s n o).standing ≡ s)
+        × ((acted limit s n o).removed ≡ []) }
 {}
 
 /// An act removes none but registered nexuses, registers none but its caller, tells of unit attention
 /// conditions, and refuses with RESERVATION CONFLICT or ILLEGAL REQUEST.
 pub fn whom_an_act_reaches()
-    ensures registered { (limit : ℕ) (s : Standing) (n : Nexus) (o : ReserveOut) (m : Nexus) → is_registered (acted limit s n o).standing.pairs m ≡ true → (is_registered s.pairs m ≡ true) ⊎ (m ≡ n) }
-    ensures removed { (limit : ℕ) (s : Standing) (n : Nexus) (o : ReserveOut) (m : Nexus) → is_registered (acted limit s n o).removed m ≡ true → is_registered s.pairs m ≡ true }
-    ensures removed_code { (limit : ℕ) (s : Standing) (n : Nexus) (o : ReserveOut) (c : Code) → (acted limit s n o).removed_code ≡ Some c → is_attention c ≡ true }
-    ensures stay_code { (limit : ℕ) (s : Standing) (n : Nexus) (o : ReserveOut) (c : Code) → (acted limit s n o).stay_code ≡ Some c → is_attention c ≡ true }
-    ensures refusal { (limit : ℕ) (s : Standing) (n : Nexus) (o : ReserveOut) (c : Code) → (acted limit s n o).verdict ≡ Bad c → c.key ≡ 5 }
+    ensures registered { (limit : ℕ) (s : Standing) (n : Nexus) (o : ReserveOut) (m : Nexus)
+        → is_registered (acted limit s n o).standing.pairs m ≡ true
+        → (is_registered s.pairs m ≡ true) ⊎ (m ≡ n) }
+    ensures removed { (limit : ℕ) (s : Standing) (n : Nexus) (o : ReserveOut) (m : Nexus)
+        → is_registered (acted limit s n o).removed m ≡ true → is_registered s.pairs m ≡ true }
+    ensures removed_code { (limit : ℕ) (s : Standing) (n : Nexus) (o : ReserveOut) (c : Code)
+        → (acted limit s n o).removed_code ≡ Some c → is_attention c ≡ true }
+    ensures stay_code { (limit : ℕ) (s : Standing) (n : Nexus) (o : ReserveOut) (c : Code)
+        → (acted limit s n o).stay_code ≡ Some c → is_attention c ≡ true }
+    ensures refusal { (limit : ℕ) (s : Standing) (n : Nexus) (o : ReserveOut) (c : Code)
+        → (acted limit s n o).verdict ≡ Bad c → c.key ≡ 5 }
 {}
 
 /// A refused command leaves the world as it is, but that a unit attention which is reported goes.

@@ -49,7 +49,8 @@ pub fn held_code(reservation: &Reservation) -> u8
 
 /// Whether a nexus holds the reservation, by whether it is registered.
 pub fn holds(reservation: &Reservation, nexus: Nexus, is_registered: bool) -> bool
-    ensures { (ps : List P) → is_registered ≡ registers ps nexus → result ≡ is_holder_in reservation.now ps nexus }
+    ensures { (ps : List P) → is_registered ≡ registers ps nexus
+        → result ≡ is_holder_in reservation.now ps nexus }
 {
     match reservation {
         Reservation::Free => false,

@@ -103,8 +103,12 @@ impl Pairs {
     /// Registers a nexus with a key, or gives it another key, in its place.
     pub fn put_in(&mut self, place: Result<usize, usize>, nexus: Nexus, key: Key)
         requires place { IsPlace self.old.pairs nexus place }
-        requires room { is_registered self.old.pairs nexus ≡ false → length self.old.pairs < self.old.limit }
-        ensures { self.new ≡ record { pairs = with_pair self.old.pairs (pair nexus key.0); limit = self.old.limit } }
+        requires room { is_registered self.old.pairs nexus ≡ false
+            → length self.old.pairs < self.old.limit }
+        ensures { self.new ≡ record {
+          pairs = with_pair self.old.pairs (pair nexus key.0);
+          limit = self.old.limit;
+        } }
     {
         put_in(&mut self.items, place, nexus, key);
     }
@@ -112,14 +116,21 @@ impl Pairs {
     /// Takes the registration in a place out.
     pub fn drop_at(&mut self, place: usize)
         requires { place < length self.old.pairs }
-        ensures { (n : Nexus) → StandsAt self.old.pairs n place → self.new ≡ record { pairs = but_those (is_at n) self.old.pairs; limit = self.old.limit } }
+        ensures { (n : Nexus) → StandsAt self.old.pairs n place
+            → self.new ≡ record {
+              pairs = but_those (is_at n) self.old.pairs;
+              limit = self.old.limit;
+            } }
     {
         drop_at(&mut self.items, place);
     }
 
     /// Unregisters those that leave.
     pub fn take_out(&mut self, leaving: Leaving)
-        ensures { self.new ≡ record { pairs = but_those (goes leaving) self.old.pairs; limit = self.old.limit } }
+        ensures { self.new ≡ record {
+          pairs = but_those (goes leaving) self.old.pairs;
+          limit = self.old.limit;
+        } }
     {
         take_out(&mut self.items, leaving);
     }
@@ -127,7 +138,10 @@ impl Pairs {
     /// Becomes the list of those that leave another one.
     pub fn list_those(&mut self, pairs: &Pairs, leaving: Leaving)
         requires { pairs.now.limit ≡ self.old.limit }
-        ensures { self.new ≡ record { pairs = just_those (goes leaving) pairs.now.pairs; limit = self.old.limit } }
+        ensures { self.new ≡ record {
+          pairs = just_those (goes leaving) pairs.now.pairs;
+          limit = self.old.limit;
+        } }
     {
         fill(&mut self.items, pairs.items.as_slice());
         keep_those(&mut self.items, leaving);

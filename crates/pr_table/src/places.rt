@@ -68,10 +68,12 @@ pub fn keep_those(pairs: &mut Vec<Pair>, leaving: Leaving)
 pub fn put_in(pairs: &mut Vec<Pair>, place: Result<usize, usize>, nexus: Nexus, key: Key)
     requires ascending { IsAscending pairs.old.items }
     requires place { IsPlace pairs.old.items nexus place }
-    requires room { is_registered pairs.old.items nexus ≡ false → vec_len pairs.old < vec_capacity pairs.old }
+    requires room { is_registered pairs.old.items nexus ≡ false
+        → vec_len pairs.old < vec_capacity pairs.old }
     ensures ascending { IsAscending pairs.new.items }
     ensures pairs { pairs.new.items ≡ with_pair pairs.old.items (pair nexus key.0) }
-    ensures len { vec_len pairs.new ≤ (if is_registered pairs.old.items nexus then vec_len pairs.old else vec_len pairs.old + 1) }
+    ensures len { vec_len pairs.new
+        ≤ (if is_registered pairs.old.items nexus then vec_len pairs.old else vec_len pairs.old + 1) }
     ensures capacity { vec_capacity pairs.old ≤ vec_capacity pairs.new }
 {
     match place {
@@ -87,7 +89,8 @@ pub fn drop_at(pairs: &mut Vec<Pair>, place: usize)
     requires ascending { IsAscending pairs.old.items }
     requires place { place < length pairs.old.items }
     ensures ascending { IsAscending pairs.new.items }
-    ensures pairs { pairs.new.items ≡ take place pairs.old.items ++ drop (suc place) pairs.old.items }
+    ensures pairs { pairs.new.items ≡ take place pairs.old.items
+        ++ drop (suc place) pairs.old.items }
     ensures fewer { vec_len pairs.new ≤ vec_len pairs.old }
     ensures capacity { vec_capacity pairs.new ≡ vec_capacity pairs.old }
 {

@@ -58,7 +58,13 @@ impl Table {
     ///
     /// Want of memory alone.
     pub fn new(alloc: Global, limit: usize) -> Result<Table, AllocError>
-        ensures { IfOk result (λ t. (limit_of t ≡ limit) × (standing_of t ≡ record { pairs = []; reservation = Free; generation = 0; preserve = false }) × (removed_of t ≡ [])) }
+        ensures { IfOk result (λ t. (limit_of t ≡ limit)
+            × (standing_of t ≡ record {
+              pairs = [];
+              reservation = Free;
+              generation = 0;
+              preserve = false;
+            }) × (removed_of t ≡ [])) }
     {
         let pairs = Pairs::new(alloc, limit)?;
         let removed = Pairs::new(alloc, limit)?;
@@ -78,7 +84,8 @@ impl Table {
     /// Want of memory alone.
     pub fn from_kept(alloc: Global, kept: &Kept, limit: usize) -> Result<Table, AllocError>
         requires { IsWellFormed limit (restored kept.now) }
-        ensures { IfOk result (λ t. (limit_of t ≡ limit) × (standing_of t ≡ restored kept.now) × (removed_of t ≡ [])) }
+        ensures { IfOk result (λ t. (limit_of t ≡ limit) × (standing_of t ≡ restored kept.now)
+            × (removed_of t ≡ [])) }
     {
         let mut table = Table::new(alloc, limit)?;
         if kept.on {
@@ -93,7 +100,13 @@ impl Table {
     fn restore(&mut self, pairs: &[Pair], reservation: Reservation)
         requires order { IsAscending pairs.now }
         requires within { length pairs.now ≤ limit_of self.old }
-        ensures standing { standing_of self.new ≡ record { pairs = pairs.now; reservation = reservation; generation = (standing_of self.old).generation; preserve = true } }
+        ensures standing { standing_of self.new
+            ≡ record {
+              pairs = pairs.now;
+              reservation = reservation;
+              generation = (standing_of self.old).generation;
+              preserve = true;
+            } }
         ensures limit { limit_of self.new ≡ limit_of self.old }
         ensures removed { removed_of self.new ≡ removed_of self.old }
     {
@@ -132,7 +145,8 @@ impl Table {
     /// A nexus whose registration the last `act` removed, by ascending nexus from 0.
     pub fn removed(&self, i: usize) -> Nexus
         requires { i < length (removed_of self.now) }
-        ensures { option_map (λ (p : Pair). p.nexus) (slice_get (removed_of self.now) i) ≡ Some result }
+        ensures { option_map (λ (p : Pair). p.nexus) (slice_get (removed_of self.now) i)
+            ≡ Some result }
     {
         self.removed.at(i).nexus
     }
@@ -147,7 +161,8 @@ impl Table {
     /// Serves a PERSISTENT RESERVE OUT whose service action is given by its number, as `serve` does.
     pub fn act(&mut self, nexus: Nexus, action: &OutAction, list: &OutList) -> Verdict
         requires { action.now.action ≤ 6 }
-        ensures does { Does (acted (limit_of self.old) (standing_of self.old) nexus (numbered action.now list.now)) result (standing_of self.new) (removed_of self.new) }
+        ensures does { Does (acted (limit_of self.old) (standing_of self.old) nexus
+            (numbered action.now list.now)) result (standing_of self.new) (removed_of self.new) }
         ensures keeps { Keeps result (standing_of self.old) (standing_of self.new) }
         ensures abort { Aborts result action.now.action }
         ensures limit { limit_of self.new ≡ limit_of self.old }
@@ -167,7 +182,8 @@ impl Table {
     /// Serves a PERSISTENT RESERVE OUT of a nexus, once the CDB's fields and the list's have passed
     /// their checks: whether its key is the caller's, and the rules of its service action (SPC-4).
     pub fn serve(&mut self, nexus: Nexus, request: &OutRequest, list: &OutList) -> Verdict
-        ensures does { Does (acted (limit_of self.old) (standing_of self.old) nexus (requested request.now list.now)) result (standing_of self.new) (removed_of self.new) }
+        ensures does { Does (acted (limit_of self.old) (standing_of self.old) nexus
+            (requested request.now list.now)) result (standing_of self.new) (removed_of self.new) }
         ensures keeps { Keeps result (standing_of self.old) (standing_of self.new) }
         ensures abort { Aborts result (out_service_code request.now.service) }
         ensures limit { limit_of self.new ≡ limit_of self.old }
@@ -206,7 +222,10 @@ impl Table {
     fn keeps(&self, note: &Note) -> bool
         requires { IfOk note.now.place (λ i. i < note.now.count) }
         ensures within { length (standing_of self.now).pairs ≤ limit_of self.now }
-        ensures keeps { (s : Standing) (n : Nexus) → Notes note.now s n → result ≡ keeps_by s.preserve (standing_of self.now).preserve (looks_still s.pairs (standing_of self.now).pairs n note.now.place) (same_reservation s.reservation (standing_of self.now).reservation) }
+        ensures keeps { (s : Standing) (n : Nexus) → Notes note.now s n
+            → result ≡ keeps_by s.preserve (standing_of self.now).preserve
+            (looks_still s.pairs (standing_of self.now).pairs n note.now.place)
+            (same_reservation s.reservation (standing_of self.now).reservation) }
     {
         let pairs = self.is_still(note);
         let reservation = is_same_reservation(&note.reservation, &self.reservation);
@@ -222,7 +241,8 @@ impl Table {
     fn is_still(&self, note: &Note) -> bool
         requires { IfOk note.now.place (λ i. i < note.now.count) }
         ensures within { length (standing_of self.now).pairs ≤ limit_of self.now }
-        ensures still { (s : Standing) (n : Nexus) → Notes note.now s n → result ≡ looks_still s.pairs (standing_of self.now).pairs n note.now.place }
+        ensures still { (s : Standing) (n : Nexus) → Notes note.now s n
+            → result ≡ looks_still s.pairs (standing_of self.now).pairs n note.now.place }
     {
         if note.count != self.pairs.len() {
             return false;
@@ -233,7 +253,8 @@ impl Table {
     /// The check of the registration, and the rules of the service action.
     fn decide(&mut self, nexus: Nexus, note: &Note, request: &OutRequest, list: &OutList) -> Verdict
         requires { Notes note.now (standing_of self.old) nexus }
-        ensures does { Does (acted (limit_of self.old) (standing_of self.old) nexus (requested request.now list.now)) result (standing_of self.new) (removed_of self.new) }
+        ensures does { Does (acted (limit_of self.old) (standing_of self.old) nexus
+            (requested request.now list.now)) result (standing_of self.new) (removed_of self.new) }
         ensures limit { limit_of self.new ≡ limit_of self.old }
     {
         self.removed.clear();
@@ -269,7 +290,9 @@ impl Table {
     ) -> Verdict
         requires removed { removed_of self.old ≡ [] }
         requires place { IsPlace (standing_of self.old).pairs nexus place }
-        ensures does { Does (register (limit_of self.old) (standing_of self.old) nexus key aptpl) result (standing_of self.new) (removed_of self.new) }
+        ensures does { Does (register (limit_of self.old)
+            (standing_of self.old) nexus key aptpl) result (standing_of self.new)
+            (removed_of self.new) }
         ensures limit { limit_of self.new ≡ limit_of self.old }
     {
         if key == 0 {
@@ -287,7 +310,9 @@ impl Table {
     fn unregister(&mut self, nexus: Nexus, place: Result<usize, usize>, aptpl: bool) -> Verdict
         requires removed { removed_of self.old ≡ [] }
         requires place { IsPlace (standing_of self.old).pairs nexus place }
-        ensures does { Does (register (limit_of self.old) (standing_of self.old) nexus 0 aptpl) result (standing_of self.new) (removed_of self.new) }
+        ensures does { Does (register (limit_of self.old)
+            (standing_of self.old) nexus 0 aptpl) result (standing_of self.new)
+            (removed_of self.new) }
         ensures limit { limit_of self.new ≡ limit_of self.old }
     {
         let Ok(place) = place else {
@@ -304,7 +329,8 @@ impl Table {
     fn reserve(&mut self, nexus: Nexus, place: Result<usize, usize>, kind: u8) -> Verdict
         requires removed { removed_of self.old ≡ [] }
         requires place { IsPlace (standing_of self.old).pairs nexus place }
-        ensures does { Does (reserve (standing_of self.old) nexus kind) result (standing_of self.new) (removed_of self.new) }
+        ensures does { Does (reserve (standing_of self.old) nexus kind) result
+            (standing_of self.new) (removed_of self.new) }
         ensures limit { limit_of self.new ≡ limit_of self.old }
     {
         if let Some(own) = kind_of(&self.reservation) {
@@ -323,7 +349,8 @@ impl Table {
     fn release(&mut self, nexus: Nexus, place: Result<usize, usize>, scope: u8, kind: u8) -> Verdict
         requires removed { removed_of self.old ≡ [] }
         requires place { IsPlace (standing_of self.old).pairs nexus place }
-        ensures does { Does (release (standing_of self.old) nexus scope kind) result (standing_of self.new) (removed_of self.new) }
+        ensures does { Does (release (standing_of self.old) nexus scope kind) result
+            (standing_of self.new) (removed_of self.new) }
         ensures limit { limit_of self.new ≡ limit_of self.old }
     {
         let Some(own) = kind_of(&self.reservation) else {
@@ -341,7 +368,8 @@ impl Table {
 
     fn clear(&mut self) -> Verdict
         requires { removed_of self.old ≡ [] }
-        ensures does { Does (clear (standing_of self.old)) result (standing_of self.new) (removed_of self.new) }
+        ensures does { Does (clear (standing_of self.old)) result (standing_of self.new)
+            (removed_of self.new) }
         ensures limit { limit_of self.new ≡ limit_of self.old }
     {
         let verdict = self.remove(Leaving::All, Code::RESERVATIONS_PREEMPTED, None);
@@ -352,8 +380,10 @@ impl Table {
     /// PREEMPT and PREEMPT AND ABORT of a nexus with this key.
     fn preempt(&mut self, nexus: Nexus, own: Option<Key>, request: &OutRequest, key: u64) -> Verdict
         requires removed { removed_of self.old ≡ [] }
-        requires own { option_map (λ (k : Key). k.0) own ≡ key_of (standing_of self.old).pairs nexus }
-        ensures does { Does (preempt (standing_of self.old) nexus request.now.scope request.now.kind key) result (standing_of self.new) (removed_of self.new) }
+        requires own { option_map (λ (k : Key). k.0) own
+            ≡ key_of (standing_of self.old).pairs nexus }
+        ensures does { Does (preempt (standing_of self.old) nexus request.now.scope
+            request.now.kind key) result (standing_of self.new) (removed_of self.new) }
         ensures limit { limit_of self.new ≡ limit_of self.old }
     {
         if key == 0 {
@@ -394,7 +424,8 @@ impl Table {
     /// Removes those that leave, and gives the reservation to the caller with the asked type.
     fn take_over(&mut self, nexus: Nexus, request: &OutRequest, leaving: Leaving) -> Verdict
         requires { removed_of self.old ≡ [] }
-        ensures does { Does (taking (standing_of self.old) nexus request.now.scope request.now.kind (goes leaving)) result (standing_of self.new) (removed_of self.new) }
+        ensures does { Does (taking (standing_of self.old) nexus request.now.scope request.now.kind
+            (goes leaving)) result (standing_of self.new) (removed_of self.new) }
         ensures limit { limit_of self.new ≡ limit_of self.old }
     {
         if request.scope != 0 {
@@ -415,7 +446,9 @@ impl Table {
 
     /// Removes those that leave.
     fn remove(&mut self, leaving: Leaving, removed_code: Code, stay_code: Option<Code>) -> Verdict
-        ensures does { Does (removing (standing_of self.old) (goes leaving) (standing_of self.old).reservation removed_code stay_code) result (standing_of self.new) (removed_of self.new) }
+        ensures does { Does (removing (standing_of self.old) (goes leaving)
+            (standing_of self.old).reservation removed_code stay_code) result
+            (standing_of self.new) (removed_of self.new) }
         ensures limit { limit_of self.new ≡ limit_of self.old }
     {
         self.removed.list_those(&self.pairs, leaving);

@@ -32,7 +32,13 @@ pub enum Verdict {
 impl Change {
     /// A change of which nobody is told but by `stay_code`.
     pub(crate) fn telling(stay_code: Option<Code>) -> Change
-        ensures { result ≡ record { removed = 0; removed_code = None; stay_code = stay_code; abort = false; keeps = false } }
+        ensures { result ≡ record {
+          removed = 0;
+          removed_code = None;
+          stay_code = stay_code;
+          abort = false;
+          keeps = false;
+        } }
     {
         Change {
             removed: 0,

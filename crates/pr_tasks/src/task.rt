@@ -76,12 +76,17 @@ impl Task {
         requires { self.old.lba + self.old.count ≤ M.count medium.old }
         ensures steps { Steps self.old result self.new }
         ensures blocks { (self.new.lba ≡ self.old.lba) × (self.new.count ≡ self.old.count) }
-        ensures writes { IsUnderWay self.old → self.old.way ≡ Way.Write → WritesBlock (M.contents medium.old) (M.contents medium.new) (next_block self.old) (answered result) block.old }
-        ensures reads { IsUnderWay self.old → self.old.way ≡ Way.Read → ReadsBlock (M.contents medium.old) (next_block self.old) (answered result) block.new }
+        ensures writes { IsUnderWay self.old → self.old.way ≡ Way.Write
+            → WritesBlock (M.contents medium.old) (M.contents medium.new) (next_block self.old)
+            (answered result) block.old }
+        ensures reads { IsUnderWay self.old → self.old.way ≡ Way.Read
+            → ReadsBlock (M.contents medium.old) (next_block self.old) (answered result) block.new }
         ensures held { self.old.way ≡ Way.Read → M.contents medium.new ≡ M.contents medium.old }
         ensures given { self.old.way ≡ Way.Write → block.new ≡ block.old }
-        ensures marked { IsTrue self.old.aborted → (medium.new ≡ medium.old) × (block.new ≡ block.old) }
-        ensures spent { self.old.done ≡ self.old.count → (medium.new ≡ medium.old) × (block.new ≡ block.old) }
+        ensures marked { IsTrue self.old.aborted → (medium.new ≡ medium.old)
+            × (block.new ≡ block.old) }
+        ensures spent { self.old.done ≡ self.old.count → (medium.new ≡ medium.old)
+            × (block.new ≡ block.old) }
         ensures count { M.count medium.new ≡ M.count medium.old }
         ensures cause { HasCause (M.faults medium.old) (M.faults medium.new) (answered result) }
     {

@@ -23,7 +23,8 @@ pub(crate) fn command_line<R: Env + AllocGlobal>(rt: &R) -> io::Result<String> {
 /// No word of a command line holds a zero byte, so these are the words that were put in one text.
 pub(crate) fn cut(alloc: Global, line: &str) -> Result<Vec<&str>, AllocError>
     ensures some { IfOk result (λ v. 0 < length v.items) }
-    ensures joined { IfOk result (λ v. join_with_byte 0 (map (λ (x : Bor (List ℕ)). x.now) v.items) ≡ line.now) }
+    ensures joined { IfOk result (λ v. join_with_byte 0 (map (λ (x : Bor (List ℕ)). x.now) v.items)
+        ≡ line.now) }
     ensures cut { IfOk result (λ v. All (λ (x : Bor (List ℕ)). LacksByte 0 x.now) v.items) }
 {
     line.split('\0').collect(alloc)
