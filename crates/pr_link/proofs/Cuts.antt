@@ -4,11 +4,12 @@ use Rattle.std.specs.Prelude.{Option, Some, None}
 use Rattle.pr_words.specs.declared.nexus.Side.{Side}
 use Rattle.pr_grammar.specs.Frames as grammar
 use Rattle.pr_grammar.specs.Frames.{Front, Short, Broken, Whole, front, frame_size}
+use Rattle.pr_grammar.specs.Shows.{AreFrames, IsNoFrame}
 use Rattle.pr_grammar.proofs.Framings.{whole_more, broken_more}
 use Rattle.pr_link.specs.declared.frame.Got.{Got}
 use Rattle.pr_link.specs.declared.frame.Got.TheVariants as got
 use Rattle.pr_link.specs.Streams.{Stream, FeedsIf, GivesIf, GivesAt, GivesAgain, frame_of}
-use Rattle.pr_link.specs.Calls.{Call, Feed, Next, Runs, fed, given, behind, StandAt, Leaves, FramesAreAtTheFront}
+use Rattle.pr_link.specs.Calls.{Call, Feed, Next, Runs, fed, given, behind, StandAt, Leaves, FramesAreAtTheFront, CutsAreAlike}
 
 -- after a broken rule nothing is given, and the stream stays
 record Stays (old : Stream) (calls : List Call) (new : Stream) : Type 0 where
@@ -101,3 +102,60 @@ runs_leave (Next answer buf ∷ calls) old new none runs =
 
 pub frames_are_at_the_front : FramesAreAtTheFront
 frames_are_at_the_front old new calls none runs = runs_leave calls old new none runs
+
+-- frames up to where none is whole are the only ones
+only_frames : (side : Side) (bytes : List ℕ) (fs gs : List grammar.Frame) (t u : List ℕ) → AreFrames side bytes fs t → IsNoFrame (front side t) → AreFrames side bytes gs u
+    → IsNoFrame (front side u) → (fs ≡ gs) × (t ≡ u)
+only_frames side bytes [] [] t u one none two empty = (refl, sym one ∙ two)
+only_frames side bytes [] (g ∷ gs) t u one none two empty = absurd (subst IsNoFrame (ap (front side) (sym one) ∙ two.1) none)
+only_frames side bytes (f ∷ fs) [] t u one none two empty = absurd (subst IsNoFrame (ap (front side) (sym two) ∙ one.1) empty)
+only_frames side bytes (f ∷ fs) (g ∷ gs) t u one none two empty =
+    let same : Whole f one.0 ≡ Whole g two.0 = sym one.1 ∙ two.1 in
+    let first : f ≡ g = cc in
+    let left : two.0 ≡ one.0 = cc in
+    let more : (fs ≡ gs) × (t ≡ u) = only_frames side one.0 fs gs t u one.2 none (subst (λ (w : List ℕ). AreFrames side w gs u) left two.2) empty in
+    (ap (λ (h : grammar.Frame). h ∷ fs) first ∙ ap (λ (hs : List grammar.Frame). g ∷ hs) more.0, more.1)
+
+-- what two ways through the same bytes have in common
+record Alike (fs gs : List grammar.Frame) (b c : Option ℕ) (xs ys : List ℕ) : Type 0 where
+  pub frames : fs ≡ gs
+  pub broken : b ≡ c
+  pub held : xs ≡ ys
+
+alike : (side : Side) (bytes : List ℕ) (fs gs : List grammar.Frame) (b c : Option ℕ) (held kept : List ℕ) (m n : ℕ) → StandAt b side bytes fs held → StandAt c side bytes gs kept
+    → front side held ≡ Short m → front side kept ≡ Short n → Alike fs gs b c held kept
+alike side bytes fs gs None None held kept m n one two lacks wants =
+    let same = only_frames side bytes fs gs held kept one (subst IsNoFrame (sym lacks) tt) two (subst IsNoFrame (sym wants) tt) in
+    record { frames = same.0; broken = refl; held = same.1 }
+alike side bytes fs gs None (Some s) held kept m n one two lacks wants =
+    let same = only_frames side bytes fs gs held two.0 one (subst IsNoFrame (sym lacks) tt) two.1 (subst IsNoFrame (sym two.2) tt) in
+    absurd (let never : Short m ≡ Broken s = sym lacks ∙ ap (front side) same.1 ∙ two.2 in cc)
+alike side bytes fs gs (Some r) None held kept m n one two lacks wants =
+    let same = only_frames side bytes fs gs one.0 kept one.1 (subst IsNoFrame (sym one.2) tt) two (subst IsNoFrame (sym wants) tt) in
+    absurd (let never : Broken r ≡ Short n = sym one.2 ∙ ap (front side) same.1 ∙ wants in cc)
+alike side bytes fs gs (Some r) (Some s) held kept m n one two lacks wants =
+    let same = only_frames side bytes fs gs one.0 two.0 one.1 (subst IsNoFrame (sym one.2) tt) two.1 (subst IsNoFrame (sym two.2) tt) in
+    let rule : Broken r ≡ Broken s = sym one.2 ∙ ap (front side) same.1 ∙ two.2 in
+    let reason : r ≡ s = cc in
+    record { frames = same.0; broken = ap Some reason; held = one.3 ∙ sym two.3 }
+
+abbrev stream : Side → ℕ → List ℕ → Option ℕ → Stream
+stream side place held broken = record { side = side; place = place; held = held; broken = broken }
+
+same_stream : (x y : Stream) → x.side ≡ y.side → x.place ≡ y.place → x.held ≡ y.held → x.broken ≡ y.broken → x ≡ y
+same_stream x y side place held broken =
+    ap (λ (v : Side). stream v x.place x.held x.broken) side ∙ ap (λ (v : ℕ). stream y.side v x.held x.broken) place
+    ∙ ap (λ (v : List ℕ). stream y.side y.place v x.broken) held ∙ ap (λ (v : Option ℕ). stream y.side y.place y.held v) broken
+
+pub cuts_alike : CutsAreAlike
+cuts_alike old x y a b none to_x to_y same asked_x asked_y =
+    let one : Leaves old a x = runs_leave a old x none to_x in
+    let two : Leaves old b y = runs_leave b old y none to_y in
+    let frames : StandAt y.broken old.side (old.held ++ fed a) (given b) y.held =
+    subst (λ (w : List ℕ). StandAt y.broken old.side (old.held ++ w) (given b) y.held) (sym same) two.frames in
+    let lacks : front old.side x.held ≡ Short asked_x.0 = ap (λ (s : Side). front s x.held) (sym one.side) ∙ asked_x.1 in
+    let wants : front old.side y.held ≡ Short asked_y.0 = ap (λ (s : Side). front s y.held) (sym two.side) ∙ asked_y.1 in
+    let both : Alike (given a) (given b) x.broken y.broken x.held y.held =
+    alike old.side (old.held ++ fed a) (given a) (given b) x.broken y.broken x.held y.held asked_x.0 asked_y.0 one.frames frames lacks wants in
+    let place : x.place ≡ y.place = one.place ∙ ap (behind old.place) both.frames ∙ sym two.place in
+    (both.frames, same_stream x y (one.side ∙ sym two.side) place both.held both.broken)

@@ -2,8 +2,8 @@
 use Rattle.std.specs.Prelude.{◌≡◌, ℕ, ◌+◌, ◌%◌, ◌^◌, List, [], ◌∷◌, ◌++◌, take, Option, Some, None}
 use Rattle.pr_words.specs.declared.nexus.Side.{Side}
 use Rattle.pr_grammar.specs.Frames as grammar
-use Rattle.pr_grammar.specs.Frames.{Broken, front, frame_size}
-use Rattle.pr_grammar.specs.Shows.{AreFrames, IsNoFrame}
+use Rattle.pr_grammar.specs.Frames.{Short, Broken, front, frame_size}
+use Rattle.pr_grammar.specs.Shows.{AreFrames}
 use Rattle.pr_link.specs.declared.frame.Got.{Got}
 use Rattle.pr_link.specs.declared.frame.Got.TheVariants as got
 use Rattle.pr_link.specs.Streams.{Stream, Feeds, Gives, frame_of}
@@ -53,9 +53,13 @@ pub record Leaves (old : Stream) (calls : List Call) (new : Stream) : Type 0 whe
 abbrev pub FramesAreAtTheFront : Type 0
 FramesAreAtTheFront = (old new : Stream) (calls : List Call) → old.broken ≡ None → Runs old calls new → Leaves old calls new
 
+-- all is asked: bytes lack at the front of what is held, so no frame and no broken rule is left to be told
+abbrev pub IsAsked : Stream → Type 0
+IsAsked s = (lacks : ℕ) × (front s.side s.held ≡ Short lacks)
+
 -- two lists of calls that take the same bytes, cut and asked for as they may be, give the same frames and leave the same
--- stream, once each has asked until no whole frame is held
+-- stream, once each has asked for all
 abbrev pub CutsAreAlike : Type 0
 CutsAreAlike =
     (old x y : Stream) (a b : List Call) → old.broken ≡ None → Runs old a x → Runs old b y → fed a ≡ fed b
-    → IsNoFrame (front x.side x.held) → IsNoFrame (front y.side y.held) → (given a ≡ given b) × (x ≡ y)
+    → IsAsked x → IsAsked y → (given a ≡ given b) × (x ≡ y)

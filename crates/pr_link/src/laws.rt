@@ -1,4 +1,4 @@
-ghost use Rattle.pr_link.specs.Calls.{FramesAreAtTheFront};
+ghost use Rattle.pr_link.specs.Calls.{FramesAreAtTheFront, CutsAreAlike};
 ghost use Rattle.pr_link.specs.Laws.{WrittenIsRead, ReadIsWritten, LoginIsReadBack, CommandIsReadBack, RepliesKeepTheRules};
 
 /// A law, proved by its contract: a frame that is written is read back, whatever bytes come behind it.
@@ -29,4 +29,5 @@ pub fn replies_keep_the_rules()
 /// the next frame is asked for.
 pub fn cuts_are_alike()
     ensures front { FramesAreAtTheFront }
+    ensures alike { CutsAreAlike }
 {}
