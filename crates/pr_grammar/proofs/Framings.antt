@@ -50,10 +50,10 @@ settled side xs ys there =
           )
     ]
 
-whole_more : (side : Side) (xs ys : List ℕ) (f : Frame) (rest : List ℕ) → front side xs ≡ Whole f rest → front side (xs ++ ys) ≡ Whole f (rest ++ ys)
+pub whole_more : (side : Side) (xs ys : List ℕ) (f : Frame) (rest : List ℕ) → front side xs ≡ Whole f rest → front side (xs ++ ys) ≡ Whole f (rest ++ ys)
 whole_more side xs ys f rest e = settled side xs ys (rw e tt) ∙ ap (λ (x : Front). grown x ys) e
 
-broken_more : (side : Side) (xs ys : List ℕ) (r : ℕ) → front side xs ≡ Broken r → front side (xs ++ ys) ≡ Broken r
+pub broken_more : (side : Side) (xs ys : List ℕ) (r : ℕ) → front side xs ≡ Broken r → front side (xs ++ ys) ≡ Broken r
 broken_more side xs ys r e = settled side xs ys (rw e tt) ∙ ap (λ (x : Front). grown x ys) e
 
 -- what is known where bytes lack: the length isn't there yet, or it is and the frame isn't

@@ -1,5 +1,5 @@
 -- Bodies of the link's frames (this project's own).
-use Rattle.std.specs.Prelude.{ℕ, ◌+◌, ◌-◌, ◌==◌, ◌&&◌, nat_lt, nat_le, not, Bool, List, [], ◌∷◌, ◌++◌, length, drop, slice_index, slice_range, replicate, Option, Some, None, if◌then◌else◌}
+use Rattle.std.specs.Prelude.{◌≡◌, ℕ, ◌+◌, ◌≤◌, ◌-◌, ◌==◌, ◌&&◌, nat_lt, nat_le, not, Bool, List, [], ◌∷◌, ◌++◌, length, drop, slice_index, slice_range, replicate, Option, Some, None, if◌then◌else◌}
 use Rattle.std.specs.List.{list_all}
 use Rattle.std.specs.Int.{w16, w64, to_be_bytes}
 use Rattle.pr_words.specs.Fields.{number16_at, number64_at}
@@ -7,6 +7,7 @@ use Rattle.pr_words.specs.Codes.{status_code}
 use Rattle.pr_words.specs.declared.nexus.Nexus.{Nexus}
 use Rattle.pr_words.specs.declared.code.Sense.{Sense}
 use Rattle.pr_words.specs.declared.code.Status.{Status}
+use Rattle.pr_words.specs.declared.code.Status.TheVariants.{Good, CheckCondition, ReservationConflict, TaskAborted}
 use Rattle.pr_grammar.specs.Senses.{fixed_sense}
 
 abbrev pub is_zero : ℕ → Bool
@@ -60,6 +61,14 @@ is_login_reply body = length body == 4 && list_all is_zero (slice_range body 1 4
 abbrev pub command_reply : Status → Option Sense → List ℕ → List ℕ
 command_reply status None data_in = (status_code status ∷ 0 ∷ 0 ∷ 0 ∷ []) ++ data_in
 command_reply status (Some s) data_in = (status_code status ∷ 18 ∷ 0 ∷ 0 ∷ []) ++ fixed_sense s ++ data_in
+
+-- what a reply may carry: sense with CHECK CONDITION alone, and data-in, of at most 524,288 bytes, with GOOD alone
+abbrev pub IsProperReply : Status → Option Sense → List ℕ → Type 0
+IsProperReply Good None data_in = length data_in ≤ 524288
+IsProperReply CheckCondition (Some s) data_in = length data_in ≡ 0
+IsProperReply ReservationConflict None data_in = length data_in ≡ 0
+IsProperReply TaskAborted None data_in = length data_in ≡ 0
+IsProperReply _ _ _ = ⊥
 
 -- 18 bytes of sense exactly at CHECK CONDITION, and data only at GOOD
 abbrev pub is_command_reply : List ℕ → Bool

@@ -1,3 +1,4 @@
 pub mod Streams
 pub mod Deframer
 pub mod Laws
+pub mod Calls

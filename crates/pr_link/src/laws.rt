@@ -1,4 +1,5 @@
-ghost use Rattle.pr_link.specs.Laws.{WrittenIsRead, ReadIsWritten};
+ghost use Rattle.pr_link.specs.Calls.{FramesAreAtTheFront, CutsAreAlike};
+ghost use Rattle.pr_link.specs.Laws.{WrittenIsRead, ReadIsWritten, LoginIsReadBack, CommandIsReadBack, RepliesKeepTheRules};
 
 /// A law, proved by its contract: a frame that is written is read back, whatever bytes come behind it.
 pub fn written_is_read()
@@ -9,4 +10,24 @@ pub fn written_is_read()
 /// fed are those of the frames given and then those held, in whatever pieces they came.
 pub fn read_is_written()
     ensures { ReadIsWritten }
+{}
+
+/// Laws, proved by this contract: what an initiator spells keeps the rules of the target's side, and what was spelled is
+/// read back, for fields that fit.
+pub fn requests_are_read_back()
+    ensures login { LoginIsReadBack }
+    ensures command { CommandIsReadBack }
+{}
+
+/// A law, proved by its contract: what a target writes in its replies keeps the rules of the initiator's side, where a
+/// reply has sense just with CHECK CONDITION and data just with GOOD.
+pub fn replies_keep_the_rules()
+    ensures { RepliesKeepTheRules }
+{}
+
+/// Laws, proved by this contract: the frames that a stream gives don't depend on how its bytes come in pieces, nor on when
+/// the next frame is asked for.
+pub fn cuts_are_alike()
+    ensures front { FramesAreAtTheFront }
+    ensures alike { CutsAreAlike }
 {}

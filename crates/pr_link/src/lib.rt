@@ -11,6 +11,9 @@ mod writing;
 
 pub use deframer::Deframer;
 pub use frame::{Frame, Got};
-pub use laws::{read_is_written, written_is_read};
+pub use laws::{
+    cuts_are_alike, read_is_written, replies_keep_the_rules, requests_are_read_back,
+    written_is_read,
+};
 pub use pr_words::Side;
 pub use writing::{write_command, write_frame, write_login};
