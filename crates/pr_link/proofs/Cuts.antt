@@ -3,7 +3,7 @@ use Rattle.std.proofs.Common.{◌≡◌, ℕ, ◌+◌, ◌%◌, ◌^◌, List, [
 use Rattle.std.specs.Prelude.{Option, Some, None}
 use Rattle.pr_words.specs.declared.nexus.Side.{Side}
 use Rattle.pr_grammar.specs.Frames as grammar
-use Rattle.pr_grammar.specs.Frames.{Front, Short, Broken, Whole, front, frame_size}
+use Rattle.pr_grammar.specs.Frames.{Front, Lacking, Broken, Whole, front, frame_size}
 use Rattle.pr_grammar.specs.Shows.{AreFrames, IsNoFrame}
 use Rattle.pr_grammar.proofs.Framings.{whole_more, broken_more}
 use Rattle.pr_link.specs.declared.frame.Got.{Got}
@@ -48,7 +48,7 @@ Whole_leaves calls new = (s : Stream) → s.broken ≡ None → Runs s calls new
 
 next_leaves : (at : Front) (answer : Got) (buf : List ℕ) (calls : List Call) (old mid new : Stream) → Whole_leaves calls new → old.broken ≡ None → front old.side old.held ≡ at
     → GivesAt old at answer mid buf → Runs mid calls new → Leaves old (Next answer buf ∷ calls) new
-next_leaves (Short k) (got.Need n) buf calls old mid new later none is gives runs =
+next_leaves (Lacking k) (got.Need n) buf calls old mid new later none is gives runs =
     let more : Leaves old calls new = later old none (subst (λ (s : Stream). Runs s calls new) gives.1 runs) in
     record { side = more.side; place = more.place; frames = more.frames }
 next_leaves (Broken r) (got.Bad place reason) buf calls old mid new later none is gives runs =
@@ -73,8 +73,8 @@ next_leaves (Whole f rest) (got.Frame g) buf calls old mid new later none is giv
       place = more.place ∙ ap (λ (x : grammar.Frame). behind ((old.place + frame_size x) % 2 ^ 64) (given calls)) gives.0;
       frames = one_more new.broken old.side (old.held ++ fed calls) (rest ++ fed calls) h (given calls) new.held whole more.frames;
     }
-next_leaves (Short k) (got.Bad place reason) buf calls old mid new later none is gives runs = absurd gives
-next_leaves (Short k) (got.Frame g) buf calls old mid new later none is gives runs = absurd gives
+next_leaves (Lacking k) (got.Bad place reason) buf calls old mid new later none is gives runs = absurd gives
+next_leaves (Lacking k) (got.Frame g) buf calls old mid new later none is gives runs = absurd gives
 next_leaves (Broken r) (got.Need n) buf calls old mid new later none is gives runs = absurd gives
 next_leaves (Broken r) (got.Frame g) buf calls old mid new later none is gives runs = absurd gives
 next_leaves (Whole f rest) (got.Need n) buf calls old mid new later none is gives runs = absurd gives
@@ -123,16 +123,16 @@ record Alike (fs gs : List grammar.Frame) (b c : Option ℕ) (xs ys : List ℕ) 
   pub held : xs ≡ ys
 
 alike : (side : Side) (bytes : List ℕ) (fs gs : List grammar.Frame) (b c : Option ℕ) (held kept : List ℕ) (m n : ℕ) → StandAt b side bytes fs held → StandAt c side bytes gs kept
-    → front side held ≡ Short m → front side kept ≡ Short n → Alike fs gs b c held kept
+    → front side held ≡ Lacking m → front side kept ≡ Lacking n → Alike fs gs b c held kept
 alike side bytes fs gs None None held kept m n one two lacks wants =
     let same = only_frames side bytes fs gs held kept one (subst IsNoFrame (sym lacks) tt) two (subst IsNoFrame (sym wants) tt) in
     record { frames = same.0; broken = refl; held = same.1 }
 alike side bytes fs gs None (Some s) held kept m n one two lacks wants =
     let same = only_frames side bytes fs gs held two.0 one (subst IsNoFrame (sym lacks) tt) two.1 (subst IsNoFrame (sym two.2) tt) in
-    absurd (let never : Short m ≡ Broken s = sym lacks ∙ ap (front side) same.1 ∙ two.2 in cc)
+    absurd (let never : Lacking m ≡ Broken s = sym lacks ∙ ap (front side) same.1 ∙ two.2 in cc)
 alike side bytes fs gs (Some r) None held kept m n one two lacks wants =
     let same = only_frames side bytes fs gs one.0 kept one.1 (subst IsNoFrame (sym one.2) tt) two (subst IsNoFrame (sym wants) tt) in
-    absurd (let never : Broken r ≡ Short n = sym one.2 ∙ ap (front side) same.1 ∙ wants in cc)
+    absurd (let never : Broken r ≡ Lacking n = sym one.2 ∙ ap (front side) same.1 ∙ wants in cc)
 alike side bytes fs gs (Some r) (Some s) held kept m n one two lacks wants =
     let same = only_frames side bytes fs gs one.0 two.0 one.1 (subst IsNoFrame (sym one.2) tt) two.1 (subst IsNoFrame (sym two.2) tt) in
     let rule : Broken r ≡ Broken s = sym one.2 ∙ ap (front side) same.1 ∙ two.2 in
@@ -153,8 +153,8 @@ cuts_alike old x y a b none to_x to_y same asked_x asked_y =
     let two : Leaves old b y = runs_leave b old y none to_y in
     let frames : StandAt y.broken old.side (old.held ++ fed a) (given b) y.held =
     subst (λ (w : List ℕ). StandAt y.broken old.side (old.held ++ w) (given b) y.held) (sym same) two.frames in
-    let lacks : front old.side x.held ≡ Short asked_x.0 = ap (λ (s : Side). front s x.held) (sym one.side) ∙ asked_x.1 in
-    let wants : front old.side y.held ≡ Short asked_y.0 = ap (λ (s : Side). front s y.held) (sym two.side) ∙ asked_y.1 in
+    let lacks : front old.side x.held ≡ Lacking asked_x.0 = ap (λ (s : Side). front s x.held) (sym one.side) ∙ asked_x.1 in
+    let wants : front old.side y.held ≡ Lacking asked_y.0 = ap (λ (s : Side). front s y.held) (sym two.side) ∙ asked_y.1 in
     let both : Alike (given a) (given b) x.broken y.broken x.held y.held =
     alike old.side (old.held ++ fed a) (given a) (given b) x.broken y.broken x.held y.held asked_x.0 asked_y.0 one.frames frames lacks wants in
     let place : x.place ≡ y.place = one.place ∙ ap (behind old.place) both.frames ∙ sym two.place in

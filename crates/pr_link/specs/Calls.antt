@@ -2,7 +2,7 @@
 use Rattle.std.specs.Prelude.{◌≡◌, ℕ, ◌+◌, ◌%◌, ◌^◌, List, [], ◌∷◌, ◌++◌, take, Option, Some, None}
 use Rattle.pr_words.specs.declared.nexus.Side.{Side}
 use Rattle.pr_grammar.specs.Frames as grammar
-use Rattle.pr_grammar.specs.Frames.{Short, Broken, front, frame_size}
+use Rattle.pr_grammar.specs.Frames.{Lacking, Broken, front, frame_size}
 use Rattle.pr_grammar.specs.Shows.{AreFrames}
 use Rattle.pr_link.specs.declared.frame.Got.{Got}
 use Rattle.pr_link.specs.declared.frame.Got.TheVariants as got
@@ -55,7 +55,7 @@ FramesAreAtTheFront = (old new : Stream) (calls : List Call) → old.broken ≡ 
 
 -- all is asked: bytes lack at the front of what is held, so no frame and no broken rule is left to be told
 abbrev pub IsAsked : Stream → Type 0
-IsAsked s = (lacks : ℕ) × (front s.side s.held ≡ Short lacks)
+IsAsked s = (lacks : ℕ) × (front s.side s.held ≡ Lacking lacks)
 
 -- two lists of calls that take the same bytes, cut and asked for as they may be, give the same frames and leave the same
 -- stream, once each has asked for all
