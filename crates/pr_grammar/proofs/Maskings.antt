@@ -72,6 +72,20 @@ both_halves b small = eqb-true _ _ (one_below 256 (λ b. bit_and 0xFF b == b / 1
 pub naca_bit : (b : ℕ) → b < 256 → bit_and 0x04 b ≡ control_byte (nat_lt 3 (b % 8))
 naca_bit b small = eqb-true _ _ (one_below 256 (λ b. bit_and 0x04 b == control_byte (nat_lt 3 (b % 8))) b refl small)
 
+-- SPEC_I_PT, ALL_TG_PT and APTPL
+pub list_bits : (b : ℕ) → b < 256 → bit_and 0x0D b ≡ 8 * bit (b / 8 % 2 == 1) + 4 * bit (b / 4 % 2 == 1) + bit (b % 2 == 1)
+list_bits b small = eqb-true _ _ (one_below 256 (λ b. bit_and 0x0D b == 8 * bit (b / 8 % 2 == 1) + 4 * bit (b / 4 % 2 == 1) + bit (b % 2 == 1)) b refl small)
+
+pub low_four_bits : (b : ℕ) → b < 256 → bit_and 0x0F b ≡ b % 16
+low_four_bits b small = eqb-true _ _ (one_below 256 (λ b. bit_and 0x0F b == b % 16) b refl small)
+
+-- they fit a byte
+pub low_four_fit : (b : ℕ) → b < 256 → bit_and 0x0F b ≡ bit_and 0xFF (b % 16)
+low_four_fit b small = eqb-true _ _ (one_below 256 (λ b. bit_and 0x0F b == bit_and 0xFF (b % 16)) b refl small)
+
+pub low_seven_bits : (b : ℕ) → b < 256 → bit_and 0x7F b ≡ b % 128
+low_seven_bits b small = eqb-true _ _ (one_below 256 (λ b. bit_and 0x7F b == b % 128) b refl small)
+
 -- Pieces: a byte or a field, and what stands behind it
 
 pub byte_then : {a b : ℕ} {xs ys : List ℕ} → a ≡ b → xs ≡ ys → a ∷ xs ≡ b ∷ ys
@@ -98,6 +112,15 @@ number64_spelled at bytes small le =
     let field : take 8 (drop at bytes) ≡ places 8 at bytes = taken 8 at bytes le in
     let bytewise : (i : ℕ) → slice_index (take 8 (drop at bytes)) i < 256 = small_at _ (part_small 8 at bytes small) in
     kept_whole 8 at bytes small ∙ sym field ∙ sym (be_bytes_8 (take 8 (drop at bytes)) _ (ap length field) bytewise refl)
+
+pub number16_places : (at : ℕ) (bytes : List ℕ) → All IsByte bytes → at + 2 ≤ length bytes → to_be_bytes w16 (number16_at bytes at) ≡ places 2 at bytes
+number16_places at bytes small le = sym (number16_spelled at bytes small le) ∙ kept_whole 2 at bytes small
+
+pub number32_places : (at : ℕ) (bytes : List ℕ) → All IsByte bytes → at + 4 ≤ length bytes → to_be_bytes w32 (number32_at bytes at) ≡ places 4 at bytes
+number32_places at bytes small le = sym (number32_spelled at bytes small le) ∙ kept_whole 4 at bytes small
+
+pub number64_places : (at : ℕ) (bytes : List ℕ) → All IsByte bytes → at + 8 ≤ length bytes → to_be_bytes w64 (number64_at bytes at) ≡ places 8 at bytes
+number64_places at bytes small le = sym (number64_spelled at bytes small le) ∙ kept_whole 8 at bytes small
 
 pub number16_then : (at : ℕ) (bytes : List ℕ) → All IsByte bytes → at + 2 ≤ length bytes → {xs ys : List ℕ} → xs ≡ ys → kept (replicate 2 0xFF) at bytes ++ xs ≡ to_be_bytes w16 (number16_at bytes at) ++ ys
 number16_then at bytes small le {xs = xs} {ys = ys} behind = ap (λ zs. zs ++ xs) (number16_spelled at bytes small le) ∙ ap (λ zs. to_be_bytes w16 (number16_at bytes at) ++ zs) behind

@@ -2,9 +2,9 @@ pub mod Standings
 pub mod Senses
 pub mod Operations
 pub mod Cdbs
-pub mod Masks
 pub mod OutLists
 pub mod InReplies
+pub mod Masks
 pub mod Frames
 pub mod Bodies
 pub mod Schedules

@@ -3,3 +3,4 @@ pub mod Pieces
 pub mod Holders
 pub mod Readings
 pub mod RoundTrips
+pub mod Ignored

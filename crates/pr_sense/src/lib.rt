@@ -4,6 +4,9 @@
 ghost use Rattle.std.specs.Prelude.{◌≡◌, ◌<◌, Ok, Some, None};
 ghost use Rattle.pr_grammar.specs.Senses.{fixed_sense, descriptor_sense, read_sense, read_fixed as spec_fixed, read_descriptor as spec_descriptor};
 
+mod laws;
+
+pub use laws::read_is_spelled;
 pub use pr_grammar::SenseFault;
 use pr_words::get_u32;
 pub use pr_words::{Code, Sense};
