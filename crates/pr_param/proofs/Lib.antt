@@ -4,3 +4,4 @@ pub mod Holders
 pub mod Readings
 pub mod RoundTrips
 pub mod Ignored
+pub mod IgnoredReplies
