@@ -6,7 +6,9 @@ use Rattle.pr_words.specs.declared.nexus.Key.{Key}
 use Rattle.pr_grammar.specs.declared.param.ReplyFault.{ReplyFault}
 use Rattle.pr_grammar.specs.declared.param.Held.{Held}
 use Rattle.pr_grammar.specs.declared.param.Capabilities.{Capabilities}
-use Rattle.pr_grammar.specs.InReplies.{KeyList}
+use Rattle.pr_grammar.specs.declared.param.FullEntry.{FullEntry}
+use Rattle.pr_grammar.specs.Cdbs.{bit}
+use Rattle.pr_grammar.specs.InReplies.{KeyList, FullList}
 use Rattle.pr_grammar.specs.Masks.{masked}
 
 -- a reply that is read, with its ignored places zeroed, is the spelling of what was read
@@ -51,3 +53,24 @@ capabilities_mask told = 0xFF ∷ 0xFF ∷ 0xFF ∷ 0xFF ∷ 0xFF ∷ 0xFF ∷ 0
 abbrev pub spelled_capabilities : Capabilities → List ℕ
 spelled_capabilities told =
     to_be_bytes w16 8 ++ (told.flags ∷ told.more ∷ []) ++ to_be_bytes w16 told.mask ++ (0 ∷ 0 ∷ [])
+
+-- a descriptor of READ FULL STATUS: key; R_HOLDER; scope and type; RELATIVE TARGET PORT IDENTIFIER and
+-- ADDITIONAL DESCRIPTOR LENGTH; of the TransportID the name in the SAS layout
+abbrev pub entry_mask : FullEntry → List ℕ
+entry_mask entry =
+    replicate 8 0xFF ++ (0 ∷ 0 ∷ 0 ∷ 0 ∷ 0x01 ∷ 0xFF ∷ 0 ∷ 0 ∷ 0 ∷ 0 ∷ []) ++ replicate 6 0xFF ++ replicate 4 0
+    ++ replicate 8 0xFF ++ replicate 12 0
+
+abbrev pub full_mask : FullList → List ℕ
+full_mask told = replicate 8 0xFF ++ flat_map entry_mask told.entries
+
+-- zeros where a reader ignores what stands there, a TransportID's protocol identifier among it
+abbrev pub spelled_entry : FullEntry → List ℕ
+spelled_entry entry =
+    to_be_bytes w64 entry.key.0 ++ (0 ∷ 0 ∷ 0 ∷ 0 ∷ bit entry.holder ∷ entry.kind ∷ 0 ∷ 0 ∷ 0 ∷ 0 ∷ [])
+    ++ to_be_bytes w16 entry.nexus.port ++ to_be_bytes w32 24 ++ replicate 4 0 ++ to_be_bytes w64 entry.nexus.name
+    ++ replicate 12 0
+
+abbrev pub spelled_full : FullList → List ℕ
+spelled_full told =
+    to_be_bytes w32 told.generation ++ to_be_bytes w32 (48 * length told.entries) ++ flat_map spelled_entry told.entries

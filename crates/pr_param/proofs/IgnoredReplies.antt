@@ -19,14 +19,14 @@ use Rattle.pr_param.proofs.Readings.{length_keys}
 
 -- what no test refuses
 
-past : {A : Type 0} (b : Bool) (fault : ReplyFault) (there : Result A ReplyFault) (told : A) → cond b (Err fault) there ≡ Ok told → (b ≡ false) × (there ≡ Ok told)
+pub past : {A : Type 0} (b : Bool) (fault : ReplyFault) (there : Result A ReplyFault) (told : A) → cond b (Err fault) there ≡ Ok told → (b ≡ false) × (there ≡ Ok told)
 past true fault there told e = absurd cc
 past false fault there told e = (refl, e)
 
-abbrev found : {A : Type 0} → A → Result A ReplyFault
+abbrev pub found : {A : Type 0} → A → Result A ReplyFault
 found told = Ok told
 
-inside : {A : Type 0} (there told : A) → found there ≡ found told → there ≡ told
+pub inside : {A : Type 0} (there told : A) → found there ≡ found told → there ≡ told
 inside there told e = cc
 
 -- REPORT CAPABILITIES

@@ -5,3 +5,4 @@ pub mod Readings
 pub mod RoundTrips
 pub mod Ignored
 pub mod IgnoredReplies
+pub mod IgnoredEntries
