@@ -5,6 +5,7 @@ pub mod Cdbs
 pub mod OutLists
 pub mod InReplies
 pub mod Masks
+pub mod ReplyMasks
 pub mod Frames
 pub mod Bodies
 pub mod Schedules

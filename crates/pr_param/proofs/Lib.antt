@@ -4,3 +4,5 @@ pub mod Holders
 pub mod Readings
 pub mod RoundTrips
 pub mod Ignored
+pub mod IgnoredReplies
+pub mod IgnoredEntries

@@ -12,7 +12,7 @@ mod writing;
 
 pub use full::Full;
 pub use keys::Keys;
-pub use laws::lists_are_spelled;
+pub use laws::{lists_are_spelled, replies_are_spelled};
 pub use out_list::{read_out_list, write_out_list};
 pub use pr_grammar::{Capabilities, FullEntry, Held, OutList, ParamFault, ReplyFault};
 pub use reading::{read_capabilities, read_full, read_keys, read_reservation};
