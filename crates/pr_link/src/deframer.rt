@@ -163,17 +163,16 @@ fn take_frame(
     ensures capacity { held.new.capacity ≡ held.old.capacity }
     ensures fewer { length held.new.items ≤ length held.old.items }
 {
-    let mut size = [0u8; 4];
-    read_front(held, &mut size);
-    let mut head = [0u8; 8];
+    let mut head = [0u8; 12];
     read_front(held, &mut head);
     let body = len - 8;
     read_front(held, &mut buf[..body]);
-    checked_frame(side, &head, body, buf)
+    checked_frame(side, &head[4..12], body, buf)
 }
 
 #[tactic(auto, using(crate::proofs::Heads::heads))]
-fn checked_frame(side: Side, head: &[u8; 8], body: usize, buf: &[u8]) -> Result<Frame, u8>
+fn checked_frame(side: Side, head: &[u8], body: usize, buf: &[u8]) -> Result<Frame, u8>
+    requires head { length head.now ≡ 8 }
     requires within { body ≤ length buf.now }
     requires bound { body ≤ 524308 }
     ensures { (rest : List ℕ) → Checks side (checked side (head.now ++ take body buf.now) rest) result rest buf.now }
