@@ -1,0 +1,5 @@
+mod Parts
+mod Replying
+mod Turns
+mod Askings
+mod Drivings

@@ -1,0 +1,52 @@
+-- What acts and outcomes mean, over the bytes of the work buffer.
+use Rattle.std.specs.Prelude.{◌≡◌, ℕ, ◌≤◌, List, take, drop, Option, Some}
+use Rattle.pr_words.specs.declared.nexus.Nexus.{Nexus}
+use Rattle.pr_model.specs.Entries as entries
+use Rattle.pr_core.specs.Outs.{out_of, IsProper}
+use Rattle.pr_session.specs.declared.act.CdbBytes.{CdbBytes}
+use Rattle.pr_session.specs.declared.act.Act.{Act}
+use Rattle.pr_session.specs.declared.act.Act.TheVariants.{Login, Command, Logout}
+use Rattle.pr_session.specs.declared.act.Out.{Out}
+use Rattle.pr_session.specs.declared.act.Out.TheVariants as outs
+
+abbrev pub cdb_of : CdbBytes → List ℕ
+cdb_of c = take c.len c.bytes
+
+-- the data of a command, out and in: what stands behind the first 20 bytes
+abbrev pub data_in : List ℕ → List ℕ
+data_in work = drop 20 work
+
+abbrev pub act_of : Act → List ℕ → entries.Act
+act_of (Login version) work = entries.Login version
+act_of (Command lun cdb sent) work = entries.Command lun (cdb_of cdb) (take sent (data_in work))
+act_of Logout work = entries.Logout
+
+abbrev pub outcome_of : Out → List ℕ → entries.Out
+outcome_of (outs.Login code) work = entries.Login_code code
+outcome_of (outs.Command out) work = out_of out (data_in work)
+outcome_of outs.Logout work = entries.Left
+
+-- an outcome that an act can have
+abbrev pub Fits : Act → Out → Type 0
+Fits (Login version) (outs.Login code) = Unit {0}
+Fits (Command lun cdb sent) (outs.Command out) = IsProper out
+Fits Logout outs.Logout = Unit {0}
+Fits _ _ = ⊥
+
+-- data-out is at most 524,288 bytes
+abbrev pub IsShort : Act → Type 0
+IsShort (Login version) = Unit {0}
+IsShort (Command lun cdb sent) = sent ≤ 524288
+IsShort Logout = Unit {0}
+
+-- the nexus of an act other than a login is logged in under its number before it
+abbrev pub IsOwner : Act → (Nexus → Option ℕ) → Nexus → ℕ → Type 0
+IsOwner (Login version) owner n who = Unit {0}
+IsOwner (Command lun cdb sent) owner n who = owner n ≡ Some who
+IsOwner Logout owner n who = owner n ≡ Some who
+
+-- who is logged in after an act: the nexus, where its login was accepted, and all as before after a command
+abbrev pub Owns : Act → Out → (Nexus → Option ℕ) → (Nexus → Option ℕ) → Nexus → ℕ → Type 0
+Owns (Login version) (outs.Login code) before now n who = code ≡ 0 → now n ≡ Some who
+Owns (Command lun cdb sent) out before now n who = now ≡ before
+Owns _ out before now n who = Unit {0}

@@ -1,0 +1,58 @@
+-- What a session has reached.
+use Rattle.std.specs.Prelude.{ℕ, List, [], Option, Some, None}
+use Rattle.pr_words.specs.declared.nexus.Nexus.{Nexus}
+use Rattle.pr_model.specs.Entries.{Out}
+use Rattle.pr_model.specs.Lanes as lanes
+use Rattle.pr_model.specs.Lanes.{Turned, turned, dead}
+use Rattle.pr_session.specs.declared.state.Rejection.{Rejection}
+use Rattle.pr_session.specs.declared.state.State.{State}
+use Rattle.pr_session.specs.declared.state.State.TheVariants.{Fresh, In, Dead, Asking}
+use Rattle.pr_session.specs.declared.asked.Asked.{Asked}
+use Rattle.pr_session.specs.declared.asked.Asked.TheVariants as asked
+use Rattle.pr_session.specs.Asking.{next_by, rejection_by}
+
+-- no turn is under way
+abbrev pub IsSettledIn : State → Type 0
+IsSettledIn Fresh = Unit {0}
+IsSettledIn (In n) = Unit {0}
+IsSettledIn (Dead r) = Unit {0}
+IsSettledIn (Asking a) = ⊥
+
+-- what a session has reached, where no turn is under way
+abbrev pub phase_of : State → lanes.Phase
+phase_of Fresh = lanes.Fresh
+phase_of (In n) = lanes.In n
+phase_of (Dead r) = lanes.Dead
+phase_of (Asking a) = lanes.Dead
+
+abbrev pub nexus_by : Asked → Option Nexus
+nexus_by (asked.Login head n version) = None
+nexus_by (asked.Command head n cdb sent) = Some n
+nexus_by (asked.Logout head n) = Some n
+nexus_by (asked.Reject n r) = Some n
+
+-- the nexus that is logged in
+abbrev pub nexus_at : State → Option Nexus
+nexus_at Fresh = None
+nexus_at (In n) = Some n
+nexus_at (Dead r) = None
+nexus_at (Asking a) = nexus_by a
+
+-- the Reject that was made
+abbrev pub rejection_at : State → Option Rejection
+rejection_at (Dead r) = r
+rejection_at _ = None
+
+abbrev pub next_at : State → List ℕ → ℕ → Out → Turned
+next_at (Asking a) held place out = next_by a held place out
+next_at _ held place out = turned dead []
+
+-- the Reject with which the turn under way ends
+abbrev pub rejection_in : State → Option Rejection
+rejection_in (Asking a) = rejection_by a
+rejection_in _ = None
+
+-- a session that lives, where this nexus is logged in
+abbrev pub living : Option Nexus → State
+living None = Fresh
+living (Some n) = In n

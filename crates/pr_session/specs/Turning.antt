@@ -1,0 +1,67 @@
+-- How a session takes the turns of its lane.
+use Rattle.std.specs.Prelude.{◌≡◌, ℕ, ◌-◌, List, [], length, min}
+use Rattle.pr_words.specs.declared.nexus.Nexus.{Nexus}
+use Rattle.pr_words.specs.declared.nexus.Side.TheVariants.{Target}
+use Rattle.pr_grammar.specs.Frames.{Front, Lacking, Broken, Whole, front}
+use Rattle.pr_model.specs.Limits.{HELD}
+use Rattle.pr_model.specs.Entries.{Out}
+use Rattle.pr_model.specs.Entries as entries
+use Rattle.pr_model.specs.Lanes.{Lane, Phase, Turn, Turned, turned, Idle, Silent, Asks}
+use Rattle.pr_model.specs.Lanes as lanes
+use Rattle.pr_session.specs.declared.act.Act.{Act}
+use Rattle.pr_session.specs.declared.act.Act.TheVariants as act
+use Rattle.pr_session.specs.declared.act.Want.{Want}
+use Rattle.pr_session.specs.declared.act.Want.TheVariants as want
+use Rattle.pr_session.specs.declared.session.Session.{Session}
+use Rattle.pr_session.specs.declared.state.State.{State}
+use Rattle.pr_session.specs.declared.state.State.TheVariants.{Asking}
+use Rattle.pr_session.specs.declared.asked.Asked.{Asked}
+use Rattle.pr_session.specs.Acts.{act_of, IsShort}
+use Rattle.pr_session.specs.Asking.{nexus_in, act_in, want_of}
+use Rattle.pr_session.specs.Sessions.{HasTurned, next_of, work_of}
+
+-- what an idle lane wants: more bytes, or nothing any more
+abbrev pub AwaitsAt : Phase → Front → Want → Type 0
+AwaitsAt lanes.Dead f w = w ≡ want.Dead
+AwaitsAt phase (Lacking k) w = w ≡ want.Need k
+AwaitsAt phase f w = ⊥
+
+abbrev pub Awaits : Lane → Want → Type 0
+Awaits l w = AwaitsAt l.phase (front Target l.bytes) w
+
+-- a session asks for an act only in its state: a login where it is fresh, else for the nexus that is logged in
+abbrev pub IsFor : Phase → Nexus → Act → Type 0
+IsFor lanes.Fresh n (act.Login version) = Unit {0}
+IsFor (lanes.In m) n (act.Command lun cdb sent) = m ≡ n
+IsFor (lanes.In m) n act.Logout = m ≡ n
+IsFor _ n a = ⊥
+
+-- the act of a turn is wanted: whatever its outcome is, the session makes the turn
+pub record IsAsked (from : Phase) (n : Nexus) (a : entries.Act) (follows : Out → Turned) (w : Want) (s : Session) : Type 0 where
+  pub what : Asked
+  pub state : s.state ≡ Asking what
+  pub want : w ≡ want_of what
+  pub nexus : nexus_in what ≡ n
+  pub act : act_of (act_in what) (work_of s) ≡ a
+  pub short : IsShort (act_in what)
+  pub phase : IsFor from n (act_in what)
+  pub next : (out : Out) → next_of s out ≡ follows out
+
+-- a turn of the lane for which the session stands is begun: an idle one leaves it as it is, one without an entry is made, which is a Reject's, and else its act is wanted
+abbrev pub Begins : Lane → Turn → Want → Session → Type 0
+Begins l Idle w s = Awaits l w × HasTurned s (turned l [])
+Begins l (Silent next) w s = (w ≡ want.Dead) × HasTurned s next
+Begins l (Asks n a next) w s = IsAsked l.phase n a next w s
+
+-- asked again, a turn under way wants the same
+abbrev pub Continues : State → Want → Session → Session → Type 0
+Continues (Asking a) w old new = (w ≡ want_of a) × (new ≡ old)
+Continues _ w old new = Unit {0}
+
+-- how many of these bytes a lane takes, where it holds so many at most; a dead one drops all
+abbrev pub fed_at : Phase → List ℕ → List ℕ → ℕ
+fed_at lanes.Dead held bytes = length bytes
+fed_at _ held bytes = min (length bytes) (HELD - length held)
+
+abbrev pub fed : Lane → List ℕ → ℕ
+fed l bytes = fed_at l.phase l.bytes bytes

@@ -1,0 +1,16 @@
+//! A session: the bytes of one connection, what they ask of a target, and the replies. It knows
+//! neither the target nor how bytes come and go, so any owner of a target can drive it.
+#![tactic(auto)]
+
+mod act;
+mod asked;
+mod driving;
+mod heads;
+mod session;
+mod state;
+mod work;
+
+pub use act::{Act, CdbBytes, Out, Want};
+pub use driving::{close, drive};
+pub use session::Session;
+pub use state::Rejection;

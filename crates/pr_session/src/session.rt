@@ -1,0 +1,444 @@
+//! The session of one connection.
+
+ghost use Rattle.std.specs.Prelude.{◌≡◌, ◌+◌, ◌-◌, ◌≤◌, ◌<◌, ◌++◌, ◌∷◌, [], Some, None, true, take, drop, length, slice_range, IfOk, MatchBool, ℕ};
+ghost use Rattle.pr_grammar.specs.Bodies.{login_version, login_nexus, login_reply, command_cdb, command_data, is_command_body};
+ghost use Rattle.pr_grammar.specs.Frames.{front, frame, spelled};
+ghost use Rattle.pr_grammar.specs.Frames as frames;
+ghost use Rattle.pr_words.specs.declared.nexus.Nexus.{Nexus};
+ghost use Rattle.pr_words.specs.declared.nexus.Side.TheVariants.{Target};
+ghost use Rattle.pr_model.specs.Limits.{HELD};
+ghost use Rattle.pr_model.specs.Entries.{entry, Login, Command};
+ghost use Rattle.pr_model.specs.Lanes.{Lane, lane, turn, broken, asked, fresh, dead, arrived, rejected, turned, place_after, phase_after_login, after_login, after_command, Asks};
+ghost use Rattle.pr_model.specs.Lanes as lanes;
+ghost use Rattle.pr_core.specs.Outs.{IsProper};
+ghost use Rattle.pr_core.specs.View.{owner_of, KeepsOthers, Extends};
+ghost use Rattle.pr_link.specs.Streams as streams;
+ghost use Rattle.pr_link.specs.Deframer.{stream_of, held_of, place_of};
+ghost use Rattle.pr_session.specs.Streams.{IsIntact};
+ghost use Rattle.pr_session.specs.Rooms.{answer_body};
+ghost use Rattle.pr_session.specs.States.{IsSettledIn, phase_of, living, rejection_at, rejection_in};
+ghost use Rattle.pr_session.specs.Acts.{act_of, outcome_of, Fits, IsShort, IsOwner, Owns};
+
+use crate::act::{Act, CdbBytes, Out, Want};
+use crate::asked::Asked;
+use crate::heads::{empty_head, reject_head, reply_head};
+use crate::state::{Rejection, State};
+use crate::work::{REPLY_PLACE, Work};
+use pr_core::{CommandOut, Core};
+use pr_io::{Disk, Medium};
+use pr_link::{Deframer, Frame, Got};
+use pr_words::{Nexus, Side, get_u16, get_u64};
+use std::alloc::{AllocError, Global};
+
+/// The session of one connection: it takes bytes, says what they ask for, is told how that came
+/// out, and has the replies.
+///
+/// Its owner feeds it, asks what it wants, has acts done by a target and answers them, and sends
+/// the replies. All memory is taken when it is made.
+#[derive(Drop)]
+pub struct Session {
+    deframer: Deframer,
+    work: Work,
+    state: State,
+    start: usize,
+    stop: usize,
+    ghost sound: { IsIntact (stream_of deframer) },
+    ghost roomed: { 4 ≤ start },
+    ghost order: { start ≤ stop },
+    ghost within: { stop ≤ 524320 },
+}
+
+impl Session {
+    ghost use Rattle.pr_session.specs.Asking.{want_of};
+    ghost use Rattle.pr_session.specs.Sessions.{IsSettled, IsAnswer, lane_of, next_of, work_of, reply_of, room_of, nexus_of, rejection_of, HasTurned, IsKept};
+    ghost use Rattle.pr_session.specs.Turning.{Begins, Continues, fed};
+
+    /// A new connection. All memory is taken here: 524,320 bytes for what is held, and as many to
+    /// work in.
+    pub fn new(alloc: Global) -> Result<Session, AllocError>
+        ensures new { IfOk result (λ s. HasTurned s (turned fresh [])) }
+        ensures rejection { IfOk result (λ s. rejection_of s ≡ None) }
+    {
+        Ok(Session {
+            deframer: Deframer::new(alloc, Side::Target)?,
+            work: Work::new(alloc)?,
+            state: State::Fresh,
+            start: REPLY_PLACE,
+            stop: REPLY_PLACE,
+        })
+    }
+
+    /// The connection is a new one, in the same memory.
+    pub fn fresh(&mut self)
+        ensures new { HasTurned self.new (turned fresh []) }
+        ensures rejection { rejection_of self.new ≡ None }
+    {
+        self.deframer.restart();
+        self.state = State::Fresh;
+        self.start = REPLY_PLACE;
+        self.stop = REPLY_PLACE;
+    }
+
+    /// How many bytes of the connection are held. With the work buffer a session holds 1,048,640
+    /// at most.
+    pub fn held(&self) -> usize
+        ensures held { result ≡ length (lane_of self.now).bytes }
+        ensures bound { result ≤ HELD }
+        ensures both { result + length (work_of self.now) ≤ 1048640 }
+    {
+        self.deframer.held()
+    }
+
+    /// How many bytes of the connection came before the held ones, modulo 2^64. Once a session has
+    /// ended it counts from 0 again, and holds nothing.
+    pub fn place(&self) -> u64
+        ensures { result ≡ (lane_of self.now).place }
+    {
+        self.deframer.place()
+    }
+
+    /// The Reject by which it has ended.
+    pub fn rejected(&self) -> Option<Rejection>
+        ensures { result ≡ rejection_of self.now }
+    {
+        match self.state {
+            State::Dead(rejection) => rejection,
+            State::Fresh | State::In(_) | State::Asking(_) => None,
+        }
+    }
+
+    /// The nexus that is logged in.
+    pub fn nexus(&self) -> Option<Nexus>
+        ensures { result ≡ nexus_of self.now }
+    {
+        match self.state {
+            State::In(nexus) => Some(nexus),
+            State::Fresh | State::Dead(_) => None,
+            State::Asking(asked) => asked.nexus(),
+        }
+    }
+
+    fn is_dead(&self) -> bool
+        requires { IsSettled self.now }
+        ensures { MatchBool result (phase_of self.now.state ≡ lanes.Dead)
+            (phase_of self.now.state ≡ lanes.Dead → ⊥) }
+    {
+        matches!(self.state, State::Dead(_))
+    }
+
+    /// Takes the first bytes, as many as there is room for, and says how many. A session that has
+    /// ended drops all.
+    pub fn feed(&mut self, bytes: &[u8]) -> usize
+        requires { IsSettled self.old }
+        ensures count { result ≡ fed (lane_of self.old) bytes.now }
+        ensures lane { lane_of self.new ≡ arrived (lane_of self.old) (take result bytes.now) }
+        ensures bound { length (lane_of self.new).bytes ≤ HELD }
+        ensures keeps { (self.new.state ≡ self.old.state) × (reply_of self.new ≡ reply_of self.old) }
+    {
+        if self.is_dead() {
+            return bytes.len();
+        }
+        self.deframer.feed(bytes)
+    }
+
+    /// The bytes of the reply that aren't sent yet.
+    pub fn reply(&self) -> &[u8]
+        ensures { result.now ≡ reply_of self.now }
+    {
+        self.work.range(self.start, self.stop)
+    }
+
+    /// So many more bytes of the reply are sent.
+    pub fn sent(&mut self, n: usize)
+        requires { n ≤ length (reply_of self.old) }
+        ensures reply { reply_of self.new ≡ drop n (reply_of self.old) }
+        ensures keeps { IsKept self.old self.new }
+    {
+        self.start += n;
+        if self.start == self.stop {
+            self.start = REPLY_PLACE;
+            self.stop = REPLY_PLACE;
+        }
+    }
+
+    /// Writes four bytes in front of the reply, as the head of a record that has it.
+    pub fn put_head(&mut self, head: [u8; 4])
+        ensures room { room_of self.new ≡ head }
+        ensures reply { reply_of self.new ≡ reply_of self.old }
+        ensures keeps { IsKept self.old self.new }
+    {
+        self.work.write_at(self.start - REPLY_PLACE, &head);
+    }
+
+    /// The four bytes in front of the reply, and the reply.
+    pub fn headed_reply(&self) -> &[u8]
+        ensures { result.now ≡ room_of self.now ++ reply_of self.now }
+    {
+        self.work.range(self.start - REPLY_PLACE, self.stop)
+    }
+
+    /// What it wants next. Asked again before the answer it wants the same.
+    ///
+    /// Where a frame breaks a rule and nobody is logged in, the session has ended, and a Reject is
+    /// its reply.
+    pub fn want(&mut self) -> Want
+        requires { reply_of self.old ≡ [] }
+        ensures begins { IsSettled self.old →
+            Begins (lane_of self.old) (turn (lane_of self.old)) result self.new }
+        ensures again { Continues self.old.state result self.old self.new }
+    {
+        match self.state {
+            State::Asking(asked) => asked.want(),
+            State::Dead(_) => Want::Dead,
+            State::Fresh => self.begin(None),
+            State::In(nexus) => self.begin(Some(nexus)),
+        }
+    }
+
+    /// Begins the next turn of a session that lives.
+    fn begin(&mut self, logged_in: Option<Nexus>) -> Want
+        requires lives { self.old.state ≡ living logged_in }
+        requires replied { reply_of self.old ≡ [] }
+        ensures { Begins (lane_of self.old) (turn (lane_of self.old)) result self.new }
+    {
+        let place = self.deframer.place();
+        match self.work.take_frame(&mut self.deframer) {
+            Got::Need(lacks) => Want::Need(lacks),
+            Got::Bad { place, reason } => {
+                self.refuse(logged_in, Rejection { place, reason })
+            }
+            Got::Frame(head) => self.serve(logged_in, place, head),
+        }
+    }
+
+    /// A turn waits for its act's outcome.
+    fn ask(&mut self, asked: Asked) -> Want
+        ensures want { result ≡ want_of asked }
+        ensures state { self.new.state ≡ State.Asking asked }
+        ensures stream { self.new.deframer ≡ self.old.deframer }
+        ensures work { self.new.work ≡ self.old.work }
+    {
+        self.state = State::Asking(asked);
+        asked.want()
+    }
+
+    /// A frame breaks a rule.
+    fn refuse(&mut self, logged_in: Option<Nexus>, rejection: Rejection) -> Want
+        ensures { (l : Lane) → l.phase ≡ phase_of (living logged_in) →
+            Begins l (broken (phase_of (living logged_in)) rejection.place rejection.reason)
+            result self.new }
+    {
+        match logged_in {
+            Some(nexus) => self.ask(Asked::Reject { nexus, rejection }),
+            None => {
+                self.reject(rejection);
+                Want::Dead
+            }
+        }
+    }
+
+    /// A frame came, from this place on; its body is in the work buffer.
+    fn serve(&mut self, logged_in: Option<Nexus>, place: u64, head: Frame) -> Want
+        requires formed { streams.IsFormed Target head (work_of self.old) }
+        requires placed { place_of self.old.deframer ≡
+            place_after place (streams.frame_of head (take head.body (work_of self.old))) }
+        ensures { (l : Lane) → l.phase ≡ phase_of (living logged_in) →
+            Begins l (asked (phase_of (living logged_in)) place
+            (streams.frame_of head (take head.body (work_of self.old)))
+            (held_of self.old.deframer)) result self.new }
+    {
+        let rejection = Rejection { place, reason: 5 };
+        match logged_in {
+            None => {
+                if head.kind == 0x01 {
+                    self.ask_login(head)
+                } else {
+                    self.refuse(None, rejection)
+                }
+            }
+            Some(nexus) => {
+                if head.kind == 0x02 {
+                    self.ask_command(head, nexus)
+                } else if head.kind == 0x03 {
+                    self.ask(Asked::Logout { head, nexus })
+                } else {
+                    self.refuse(Some(nexus), rejection)
+                }
+            }
+        }
+    }
+
+    /// A Login's act.
+    fn ask_login(&mut self, head: Frame) -> Want
+        requires body { head.body ≡ 12 }
+        ensures { (l : Lane) (f : frames.Frame) → l.phase ≡ lanes.Fresh
+            → f ≡ streams.frame_of head (take head.body (work_of self.old))
+            → Begins l (Asks (login_nexus f.body) (Login (login_version f.body))
+            (after_login f (held_of self.old.deframer) (place_of self.old.deframer)))
+            result self.new }
+    {
+        let (version, nexus) = login_of(self.work.front(head.body));
+        self.ask(Asked::Login {
+            head,
+            nexus,
+            version,
+        })
+    }
+
+    /// A Command's act.
+    fn ask_command(&mut self, head: Frame, nexus: Nexus) -> Want
+        requires body { is_command_body (take head.body (work_of self.old)) ≡ true }
+        requires bound { head.body ≤ 524308 }
+        ensures { (l : Lane) (f : frames.Frame) → l.phase ≡ lanes.In nexus
+            → f ≡ streams.frame_of head (take head.body (work_of self.old))
+            → Begins l (Asks nexus (Command f.lun (command_cdb f.body) (command_data f.body))
+            (after_command nexus f (held_of self.old.deframer) (place_of self.old.deframer)))
+            result self.new }
+    {
+        let cdb = CdbBytes::of(self.work.front(head.body));
+        self.ask(Asked::Command {
+            head,
+            nexus,
+            cdb,
+            out_len: head.body - 20,
+        })
+    }
+
+    /// Has an act done by a target, under a number.
+    pub(crate) fn perform<M: Medium, D: Disk>(
+        &mut self,
+        core: &mut Core<M, D>,
+        who: u64,
+        nexus: Nexus,
+        act: &Act,
+    ) -> Out
+        requires owner { IsOwner act.now (owner_of core.old) nexus who }
+        requires short { IsShort act.now }
+        ensures entry { Extends core.old core.new (entry who nexus (act_of act.now (work_of self.old))
+            (outcome_of result (work_of self.new)) ∷ []) }
+        ensures fits { Fits act.now result }
+        ensures keeps { (self.new.state ≡ self.old.state) × (self.new.deframer ≡ self.old.deframer) }
+        ensures owns { Owns act.now result (owner_of core.old) (owner_of core.new) nexus who }
+        ensures others { KeepsOthers who core.old core.new }
+    {
+        match *act {
+            Act::Login { version } => Out::Login(core.login(who, version, nexus)),
+            Act::Command { lun, cdb, out_len } => {
+                Out::Command(self.work.command(core, who, nexus, lun, &cdb, out_len))
+            }
+            Act::Logout => {
+                core.logout(who, nexus);
+                Out::Logout
+            }
+        }
+    }
+
+    /// How the act that is wanted came out. The reply then waits.
+    pub fn answer(&mut self, out: &Out)
+        requires { IsAnswer self.old out.now }
+        ensures turned { HasTurned self.new
+            (next_of self.old (outcome_of out.now (work_of self.old))) }
+        ensures rejection { rejection_of self.new ≡ rejection_in self.old.state }
+    {
+        let State::Asking(asked) = self.state else {
+            unreachable!();
+        };
+        match (asked, *out) {
+            (Asked::Login { head, nexus, .. }, Out::Login(code)) => {
+                self.answer_login(head, nexus, code);
+            }
+            (Asked::Command { head, nexus, .. }, Out::Command(out)) => {
+                self.answer_command(head, nexus, out);
+            }
+            (Asked::Logout { head, .. }, Out::Logout) => self.leave(head),
+            (Asked::Reject { rejection, .. }, Out::Logout) => self.reject(rejection),
+            _ => unreachable!(),
+        }
+    }
+
+    /// The reply that stands from its place on, so many bytes long, waits.
+    fn reply_with(&mut self, len: usize)
+        requires { len ≤ 524316 }
+        ensures reply { reply_of self.new ≡ take len (drop 4 (work_of self.old)) }
+        ensures keeps { IsKept self.old self.new }
+    {
+        self.start = REPLY_PLACE;
+        self.stop = REPLY_PLACE + len;
+    }
+
+    /// A Login is answered with a code.
+    fn answer_login(&mut self, head: Frame, nexus: Nexus, code: u8)
+        ensures turned { HasTurned self.new (turned (lane (held_of self.old.deframer)
+            (phase_after_login nexus code) (place_of self.old.deframer))
+            (spelled (frame 0x81 head.lun head.tag (login_reply code)))) }
+        ensures rejection { rejection_of self.new ≡ None }
+    {
+        self.state = state_after(nexus, code);
+        let text = reply_head(0x81, head.lun, head.tag, [code, 0, 0, 0], 0);
+        self.work.write_front(&text);
+        self.reply_with(16);
+    }
+
+    /// A command is answered.
+    fn answer_command(&mut self, head: Frame, nexus: Nexus, out: CommandOut)
+        requires { IsProper out }
+        ensures turned { HasTurned self.new (turned (lane (held_of self.old.deframer)
+            (lanes.In nexus) (place_of self.old.deframer))
+            (spelled (frame 0x82 head.lun head.tag
+            (answer_body out (drop 20 (work_of self.old)))))) }
+        ensures rejection { rejection_of self.new ≡ None }
+    {
+        self.state = State::In(nexus);
+        let len = self.work.write_answer(head, out);
+        self.reply_with(len);
+    }
+
+    /// A Logout is answered, and the session ends.
+    fn leave(&mut self, head: Frame)
+        ensures turned { HasTurned self.new
+            (turned dead (spelled (frame 0x83 head.lun head.tag []))) }
+        ensures rejection { rejection_of self.new ≡ None }
+    {
+        self.deframer.restart();
+        self.state = State::Dead(None);
+        self.work.write_front(&empty_head(0x83, head.lun, head.tag));
+        self.reply_with(12);
+    }
+
+    /// The session ends with a Reject.
+    fn reject(&mut self, rejection: Rejection)
+        ensures turned { HasTurned self.new (rejected rejection.reason rejection.place) }
+        ensures rejection { rejection_of self.new ≡ Some rejection }
+    {
+        self.deframer.restart();
+        self.state = State::Dead(Some(rejection));
+        self.work.write_front(&reject_head(rejection.reason, rejection.place));
+        self.reply_with(24);
+    }
+}
+
+/// What a session has reached after a Login.
+fn state_after(nexus: Nexus, code: u8) -> State
+    ensures settled { IsSettledIn result }
+    ensures phase { phase_of result ≡ phase_after_login nexus code }
+    ensures rejection { rejection_at result ≡ None }
+{
+    if code == 0 {
+        State::In(nexus)
+    } else {
+        State::Fresh
+    }
+}
+
+/// What a Login's body says: the version of the link's protocol, and the nexus.
+fn login_of(body: &[u8]) -> (u8, Nexus)
+    requires { length body.now ≡ 12 }
+    ensures version { result.0 ≡ login_version body.now }
+    ensures nexus { result.1 ≡ login_nexus body.now }
+{
+    let nexus = Nexus {
+        name: get_u64(body, 4),
+        port: get_u16(body, 2),
+    };
+    (body[0], nexus)
+}
