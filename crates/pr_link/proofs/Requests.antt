@@ -4,6 +4,7 @@ use Rattle.std.specs.List.{list_all}
 use Rattle.std.proofs.lemmas.Bool.{le-ltb, lt-ltb}
 use Rattle.std.proofs.lemmas.List.{take_at, drop_at, drop-drop, length-append, length-replicate}
 use Rattle.std.proofs.lemmas.Nat.{from_be_bytes-to_be_bytes_2, from_be_bytes-to_be_bytes_8}
+use Rattle.pr_words.specs.declared.limits.TheConstants.{BODY}
 use Rattle.pr_words.specs.declared.nexus.Side.{Side}
 use Rattle.pr_words.specs.declared.nexus.Side.TheVariants.{Target}
 use Rattle.pr_grammar.specs.Bodies.{is_zero, login_body, command_head, command_cdb, command_data, is_command_body}
@@ -12,7 +13,7 @@ use Rattle.pr_grammar.proofs.Spellings.{read_back}
 use Rattle.pr_link.specs.Laws.{Keeps, LoginIsReadBack, CommandIsReadBack}
 
 -- a body of its kind is found in its frame
-pub kept : (side : Side) (kind : ℕ) (body : List ℕ) → is_kind side kind ≡ true → is_body side kind body ≡ true → length body ≤ 524308 → Keeps side kind body
+pub kept : (side : Side) (kind : ℕ) (body : List ℕ) → is_kind side kind ≡ true → is_body side kind body ≡ true → length body ≤ BODY → Keeps side kind body
 kept side kind body received formed bound = (formed, λ lun tag rest lun_fits tag_fits. read_back side (frame kind lun tag body) rest received formed lun_fits tag_fits bound)
 
 pub login_back : LoginIsReadBack

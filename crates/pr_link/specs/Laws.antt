@@ -1,6 +1,7 @@
 -- Laws of the link's grammar (this project's own): frames have one spelling, which is read back, and what is written for
 -- the other side keeps the rules that it checks.
 use Rattle.std.specs.Prelude.{◌≡◌, ℕ, ◌<◌, ◌≤◌, ◌^◌, ◌++◌, true, Option, List, [], length, All}
+use Rattle.pr_words.specs.declared.limits.TheConstants.{BODY, DATA}
 use Rattle.pr_words.specs.declared.nexus.Nexus.{Nexus}
 use Rattle.pr_words.specs.declared.nexus.Side.{Side}
 use Rattle.pr_words.specs.declared.nexus.Side.TheVariants.{Target, Initiator}
@@ -13,7 +14,7 @@ use Rattle.pr_grammar.specs.Frames.{Frame, Whole, frame, front, is_kind, is_body
 abbrev pub WrittenIsRead : Type 0
 WrittenIsRead =
     (side : Side) (f : Frame) (rest : List ℕ) → is_kind side f.kind ≡ true → is_body side f.kind f.body ≡ true → f.lun < 2 ^ 16 → f.tag < 2 ^ 32
-    → length f.body ≤ 524308 → front side (spelled f ++ rest) ≡ Whole f rest
+    → length f.body ≤ BODY → front side (spelled f ++ rest) ≡ Whole f rest
 
 -- bytes at whose front a frame is found are its spelling, and then what is behind it
 abbrev pub ReadIsWritten : Type 0
@@ -39,7 +40,7 @@ LoginIsReadBack =
 -- what spells a Command keeps the target's rules, and its CDB and data-out are read back
 abbrev pub CommandIsReadBack : Type 0
 CommandIsReadBack =
-    (cdb sent : List ℕ) → 1 ≤ length cdb → length cdb ≤ 16 → length sent ≤ 524288
+    (cdb sent : List ℕ) → 1 ≤ length cdb → length cdb ≤ 16 → length sent ≤ DATA
     → Keeps Target 0x02 (command_head cdb ++ sent) × (command_cdb (command_head cdb ++ sent) ≡ cdb) × (command_data (command_head cdb ++ sent) ≡ sent)
 
 -- what a target writes keeps the initiator's rules, by the four kinds: replies to Login, Command and Logout, and Reject

@@ -2,3 +2,6 @@ pub mod Streams
 pub mod Deframer
 pub mod Laws
 pub mod Calls
+pub mod Requests
+pub mod Replies
+pub mod ValueLaws

@@ -1,7 +1,8 @@
 -- A stream of frames that one side receives (this project's own).
 use Rattle.std.specs.Prelude.{◌≡◌, ℕ, ◌+◌, ◌-◌, ◌%◌, ◌^◌, ◌≤◌, ◌++◌, true, List, [], length, take, min, Option, Some, None, Result, Ok, Err}
+use Rattle.pr_words.specs.declared.limits.TheConstants.{BODY, HELD}
 use Rattle.pr_words.specs.declared.nexus.Side.{Side}
-use Rattle.pr_grammar.specs.Frames.{Front, Lacking, Broken, Whole, front, frame, frame_size, is_body}
+use Rattle.pr_grammar.specs.Frames.{Front, Lacking, Broken, Whole, front, frame, frame_size, is_kind, is_body}
 use Rattle.pr_grammar.specs.Frames as grammar
 use Rattle.pr_link.specs.declared.frame.Frame.{Frame}
 use Rattle.pr_link.specs.declared.frame.Got.{Got}
@@ -16,7 +17,7 @@ pub record Stream : Type 0 where
 
 -- what is taken, by whether a rule was broken before: as many of the first bytes as there is room for, or all of them
 abbrev pub FeedsIf : Option ℕ → Stream → List ℕ → ℕ → Stream → Type 0
-FeedsIf None old bytes count new = (count ≡ min (length bytes) (524320 - length old.held)) × (new ≡ record old { held = old.held ++ take count bytes })
+FeedsIf None old bytes count new = (count ≡ min (length bytes) (HELD - length old.held)) × (new ≡ record old { held = old.held ++ take count bytes })
 FeedsIf (Some r) old bytes count new = (count ≡ length bytes) × (new ≡ old)
 
 -- what is taken of bytes that arrive, and the stream afterwards: what is taken is held behind the others, or dropped
@@ -27,9 +28,10 @@ Feeds old bytes count new = FeedsIf old.broken old bytes count new
 abbrev pub frame_of : Frame → List ℕ → grammar.Frame
 frame_of g body = frame g.kind g.lun g.tag body
 
--- a frame whose body keeps the rules
+-- a frame of a kind that the side receives, whose body keeps the rules
 abbrev pub IsFormed : Side → Frame → List ℕ → Type 0
-IsFormed side g buf = (g.body ≤ 524308) × (is_body side g.kind (take g.body buf) ≡ true)
+IsFormed side g buf =
+    (g.body ≤ BODY) × (is_body side g.kind (take g.body buf) ≡ true) × (is_kind side g.kind ≡ true)
 
 -- what is answered by what stands at the front
 abbrev pub GivesAt : Stream → Front → Got → Stream → List ℕ → Type 0

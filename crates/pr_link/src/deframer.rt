@@ -1,20 +1,15 @@
 ghost use Rattle.std.specs.Prelude.{◌≡◌, ℕ, ◌+◌, ◌≤◌, ◌++◌, List, [], take, drop, length, IfOk};
 ghost use Rattle.circular_buffer.specs.Buffer.{buffer};
 ghost use Rattle.pr_words.specs.Fields.{number32_at};
+ghost use Rattle.pr_words.specs.declared.limits.TheConstants.{BODY, FRAME_LENGTH, HELD};
 ghost use Rattle.pr_grammar.specs.Frames.{checked};
 ghost use Rattle.pr_link.specs.Streams.{Feeds, Gives, Checks};
 
 use crate::bodies::{is_received, is_well_formed};
 use crate::{Frame, Got};
 use circular_buffer::HeapCircularBuffer;
-use pr_words::{Side, get_u16, get_u32};
+use pr_words::{FRAME_HEAD, FRAME_LENGTH, HELD, Side, get_u16, get_u32};
 use std::alloc::{AllocError, Global};
-
-/// The longest frame, in bytes.
-const HELD: usize = 524_320;
-
-/// The greatest length field.
-const MOST: u32 = 524_316;
 
 /// A stream's bytes until they make a frame.
 ///
@@ -26,8 +21,8 @@ pub struct Deframer {
     held: HeapCircularBuffer<u8>,
     place: u64,
     broken: Option<u8>,
-    ghost room: { held.capacity ≡ 524320 },
-    ghost fits: { length held.items ≤ 524320 },
+    ghost room: { held.capacity ≡ HELD },
+    ghost fits: { length held.items ≤ HELD },
 }
 
 impl Deframer {
@@ -55,7 +50,7 @@ impl Deframer {
     /// How many bytes are held.
     pub fn held(&self) -> usize
         ensures held { result ≡ length (held_of self.now) }
-        ensures bound { result ≤ 524320 }
+        ensures bound { result ≤ HELD }
     {
         self.held.len()
     }
@@ -64,7 +59,7 @@ impl Deframer {
     /// all.
     pub fn feed(&mut self, bytes: &[u8]) -> usize
         ensures feeds { Feeds (stream_of self.old) bytes.now result (stream_of self.new) }
-        ensures bound { length (held_of self.new) ≤ 524320 }
+        ensures bound { length (held_of self.new) ≤ HELD }
     {
         if self.broken.is_some() {
             return bytes.len();
@@ -78,7 +73,7 @@ impl Deframer {
     /// rule nothing is held, and each call gives the same answer.
     #[tactic(auto, unfolding(pr_grammar::specs::Frames::front))]
     pub fn next(&mut self, buf: &mut [u8]) -> Got
-        requires { 524320 ≤ length buf.old }
+        requires { HELD ≤ length buf.old }
         ensures { Gives (stream_of self.old) result (stream_of self.new) buf.new }
     {
         if let Some(reason) = self.broken {
@@ -92,16 +87,16 @@ impl Deframer {
             return Got::Need(4 - held);
         }
         let len = front_length(&self.held);
-        if len < 8 || len > MOST {
+        let len = len as usize;
+        if len < 8 || len > FRAME_LENGTH {
             return self.break_at(1);
         }
-        let len = len as usize;
         if held < 4 + len {
             return Got::Need(4 + len - held);
         }
         match take_frame(self.side, &mut self.held, len, buf) {
             Ok(frame) => {
-                self.place = self.place.wrapping_add(12 + frame.body as u64);
+                self.place = self.place.wrapping_add((FRAME_HEAD + frame.body) as u64);
                 Got::Frame(frame)
             }
             Err(reason) => self.break_at(reason),
@@ -156,7 +151,7 @@ fn take_frame(
     buf: &mut [u8],
 ) -> Result<Frame, u8>
     requires size { 8 ≤ len }
-    requires bound { len ≤ 524316 }
+    requires bound { len ≤ FRAME_LENGTH }
     requires whole { 4 + len ≤ length held.old.items }
     requires room { len ≤ length buf.old }
     ensures gives { Checks side (checked side (take len (drop 4 held.old.items)) (drop (4 + len) held.old.items)) result held.new.items buf.new }
@@ -174,7 +169,7 @@ fn take_frame(
 fn checked_frame(side: Side, head: &[u8], body: usize, buf: &[u8]) -> Result<Frame, u8>
     requires head { length head.now ≡ 8 }
     requires within { body ≤ length buf.now }
-    requires bound { body ≤ 524308 }
+    requires bound { body ≤ BODY }
     ensures { (rest : List ℕ) → Checks side (checked side (head.now ++ take body buf.now) rest) result rest buf.now }
 {
     let kind = head[0];

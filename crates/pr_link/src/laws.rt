@@ -1,5 +1,6 @@
 ghost use Rattle.pr_link.specs.Calls.{FramesAreAtTheFront, CutsAreAlike};
 ghost use Rattle.pr_link.specs.Laws.{WrittenIsRead, ReadIsWritten, LoginIsReadBack, CommandIsReadBack, RepliesKeepTheRules};
+ghost use Rattle.pr_link.specs.ValueLaws.{RequestsAreReadBack, RepliesAreReadBack};
 
 /// A law, proved by its contract: a frame that is written is read back, whatever bytes come behind it.
 pub fn written_is_read()
@@ -23,6 +24,16 @@ pub fn requests_are_read_back()
 /// reply has sense just with CHECK CONDITION and data just with GOOD.
 pub fn replies_keep_the_rules()
     ensures { RepliesKeepTheRules }
+{}
+
+/// A law, proved by its contract: a target reads the request that an initiator wrote, as the same value.
+pub fn requests_are_the_same()
+    ensures { RequestsAreReadBack }
+{}
+
+/// A law, proved by its contract: an initiator reads the reply that a target wrote, as the same value.
+pub fn replies_are_the_same()
+    ensures { RepliesAreReadBack }
 {}
 
 /// Laws, proved by this contract: the frames that a stream gives don't depend on how its bytes come in pieces, nor on when

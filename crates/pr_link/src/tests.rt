@@ -1,7 +1,8 @@
 ghost use Rattle.std.specs.Prelude.{◌≡◌, ◌<◌, vec_len};
+ghost use Rattle.pr_words.specs.declared.limits.TheConstants.{HELD};
 
 use super::*;
-use pr_words::Nexus;
+use pr_words::{HELD, Nexus};
 use std::alloc::{AllocError, Global};
 use std::test::*;
 
@@ -10,14 +11,14 @@ use std::test::*;
 struct Reader {
     deframer: Deframer,
     buf: Vec<u8>,
-    ghost room: { vec_len buf ≡ 524320 },
+    ghost room: { vec_len buf ≡ HELD },
 }
 
 impl Reader {
     fn new(alloc: Global, side: Side) -> Result<Reader, AllocError> {
         Ok(Reader {
             deframer: Deframer::new(alloc, side)?,
-            buf: vec![in alloc; 0u8; 524_320]?,
+            buf: vec![in alloc; 0u8; HELD]?,
         })
     }
 

@@ -2,13 +2,14 @@ ghost use Rattle.std.specs.Prelude.{◌≡◌, ℕ, ◌≤◌, ◌++◌, List, l
 ghost use Rattle.pr_grammar.specs.Bodies.{login_body, command_head};
 ghost use Rattle.pr_grammar.specs.Frames.{spelled};
 ghost use Rattle.pr_link.specs.Streams.{frame_of};
+ghost use Rattle.pr_words.specs.declared.limits.TheConstants.{BODY};
 
 use crate::Frame;
 use pr_words::Nexus;
 
 /// The bytes that stand before the body of a frame: its length and its head.
 pub fn write_frame(frame: &Frame, head: &mut [u8; 12])
-    requires { frame.now.body ≤ 524308 }
+    requires { frame.now.body ≤ BODY }
     ensures { (body : List ℕ) → length body ≡ frame.now.body → head.new ++ body ≡ spelled (frame_of frame.now body) }
 {
     let [s0, s1, s2, s3] = (8 + frame.body as u32).to_be_bytes();

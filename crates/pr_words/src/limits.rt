@@ -19,6 +19,15 @@ pub const BODY: usize = 524_308;
 /// The most that a frame's length field says, which counts the bytes behind it.
 pub const FRAME_LENGTH: usize = 524_316;
 
+/// The bytes of a frame before its body.
+pub const FRAME_HEAD: usize = 12;
+
+/// The bytes of a Command's body before its data-out.
+pub const COMMAND_HEAD: usize = 20;
+
+/// The bytes of a Command reply's body before its sense and data-in.
+pub const REPLY_HEAD: usize = 4;
+
 /// The most bytes of a connection that are held: those of the longest frame.
 pub const HELD: usize = 524_320;
 
