@@ -1,17 +1,22 @@
 -- Turns that wait for the outcome of their acts.
-use Rattle.std.proofs.Common.{◌≡◌, ◌+◌, ◌-◌, ◌≤◌, arith, ℕ, List, [], ◌++◌, length, take, drop, refl, ap, sym, ◌∙◌, subst}
-use Rattle.std.proofs.lemmas.List.{drop-take}
+use Rattle.std.proofs.Common.{◌≡◌, ℕ, ◌==◌, ◌||◌, ◌⊎◌, inl, inr, Bool, true, false, List, [], ◌++◌, length, take, drop, refl, ap, sym, ◌∙◌, subst}
+use Rattle.std.specs.Prelude.{if◌then◌else◌}
+use Rattle.std.proofs.lemmas.Bool.{eqb-true}
 use Rattle.pr_words.specs.declared.nexus.Nexus.{Nexus}
+use Rattle.pr_words.specs.declared.nexus.Side.TheVariants.{Target}
 use Rattle.pr_grammar.specs.Frames as frames
+use Rattle.pr_grammar.specs.Frames.{frame, is_kind}
 use Rattle.pr_grammar.specs.Bodies.{login_version, login_nexus, login_reply, command_cdb, command_data}
 use Rattle.pr_model.specs.Entries as entries
 use Rattle.pr_model.specs.Entries.{Out, Login_code, Ended, Started, Wrote, Read, Done, Aborted, Fault, Left, Restored}
-use Rattle.pr_model.specs.Lanes.{Lane, Phase, Turned, turned, lane, In, Fresh, Asks, after_login, after_command, after_logout, broken, rejected, phase_after_login, replied}
+use Rattle.pr_model.specs.Lanes.{Lane, Phase, Turn, Turned, turned, lane, In, Fresh, Idle, Asks, asked, place_after, after_login, after_command, after_logout, broken, rejected, phase_after_login, replied}
 use Rattle.pr_model.specs.Lanes as lanes
 use Rattle.pr_link.specs.declared.frame.Frame.{Frame}
 use Rattle.pr_link.specs.Streams.{frame_of}
 use Rattle.pr_link.specs.Deframer.{held_of, place_of}
-use Rattle.pr_session.specs.declared.act.CdbBytes.{CdbBytes}
+use Rattle.pr_link.specs.declared.request.Request.{Request}
+use Rattle.pr_link.specs.declared.request.Request.TheVariants as requests
+use Rattle.pr_link.specs.Requests.{request_of}
 use Rattle.pr_session.specs.declared.act.Want.{Want}
 use Rattle.pr_session.specs.declared.state.Rejection.{Rejection}
 use Rattle.pr_session.specs.declared.state.State.{State}
@@ -37,7 +42,7 @@ login_next head body n version held place is (Fault code) = refl
 login_next head body n version held place is Left = refl
 login_next head body n version held place is (Restored value) = refl
 
-pub command_next : (head : Frame) (body : List ℕ) (n : Nexus) (cdb : CdbBytes) (sent : ℕ) (held : List ℕ) (place : ℕ) (out : Out) → next_by (Command head n cdb sent) held place out ≡ after_command n (frame_of head body) held place out
+pub command_next : (head : Frame) (body : List ℕ) (n : Nexus) (cdb : List ℕ) (sent : ℕ) (held : List ℕ) (place : ℕ) (out : Out) → next_by (Command head n cdb sent) held place out ≡ after_command n (frame_of head body) held place out
 command_next head body n cdb sent held place (Login_code code) = refl
 command_next head body n cdb sent held place (Ended status sense data_in) = refl
 command_next head body n cdb sent held place Started = refl
@@ -76,29 +81,62 @@ left l n head body w s in_n state want =
     subst (λ (p : Phase). IsAsked p n entries.Logout (λ _. after_logout (frame_of head body)) w s) (sym in_n)
     (asks (In n) n entries.Logout (λ _. after_logout (frame_of head body)) w s (Logout head n) state want refl refl tt refl (λ out. refl))
 
--- a Login where nobody is logged in
-pub login_asked : (l : Lane) (f : frames.Frame) (head : Frame) (n : Nexus) (version : ℕ) (body held : List ℕ) (place : ℕ) (w : Want) (s : Session)
-    → l.phase ≡ Fresh → f ≡ frame_of head body → n ≡ login_nexus body → version ≡ login_version body → s.state ≡ Asking (Login head n version) → w ≡ want_of (Login head n version) → held_of s.deframer ≡ held → place_of s.deframer ≡ place
-    → IsAsked l.phase (login_nexus f.body) (entries.Login (login_version f.body)) (after_login f held place) w s
-login_asked l f head n version body held place w s fresh is is_nexus is_version state want is_held is_place =
-    subst (λ (g : frames.Frame). IsAsked l.phase (login_nexus g.body) (entries.Login (login_version g.body)) (after_login g held place) w s) (sym is)
-    (subst (λ (p : Phase). IsAsked p (login_nexus body) (entries.Login (login_version body)) (after_login (frame_of head body) held place) w s) (sym fresh)
-      (asks Fresh (login_nexus body) (entries.Login (login_version body)) (after_login (frame_of head body) held place) w s (Login head n version) state want is_nexus (ap entries.Login is_version) tt tt
-        (λ out. ap (λ (h : List ℕ). next_by (Login head n version) h (place_of s.deframer) out) is_held ∙ ap (λ (p : ℕ). next_by (Login head n version) held p out) is_place ∙ login_next head body n version held place is_nexus out)))
+-- what a frame asks for, by the request that it carries
+abbrev pub asked_by : Phase → ℕ → frames.Frame → List ℕ → Request → Turn
+asked_by lanes.Dead place f rest r = Idle
+asked_by Fresh place f rest (requests.Login version n) = Asks n (entries.Login version) (after_login f rest (place_after place f))
+asked_by Fresh place f rest r = broken Fresh place 5
+asked_by (In n) place f rest (requests.Command cdb sent) = Asks n (entries.Command f.lun cdb (command_data f.body)) (after_command n f rest (place_after place f))
+asked_by (In n) place f rest requests.Logout = Asks n entries.Logout (λ _. after_logout f)
+asked_by (In n) place f rest (requests.Login version m) = broken (In n) place 5
 
--- a Command of the nexus that is logged in
-pub command_asked : (l : Lane) (f : frames.Frame) (head : Frame) (n : Nexus) (cdb : CdbBytes) (sent : ℕ) (body held : List ℕ) (place : ℕ) (w : Want) (s : Session)
-    → l.phase ≡ In n → f ≡ frame_of head body → act_of (act_in (Command head n cdb sent)) (work_of s) ≡ entries.Command head.lun (command_cdb body) (command_data body) → sent ≤ 524288
-    → s.state ≡ Asking (Command head n cdb sent) → w ≡ want_of (Command head n cdb sent) → held_of s.deframer ≡ held → place_of s.deframer ≡ place
-    → IsAsked l.phase n (entries.Command f.lun (command_cdb f.body) (command_data f.body)) (after_command n f held place) w s
-command_asked l f head n cdb sent body held place w s in_n is act short state want is_held is_place =
-    subst (λ (g : frames.Frame). IsAsked l.phase n (entries.Command g.lun (command_cdb g.body) (command_data g.body)) (after_command n g held place) w s) (sym is)
-    (subst (λ (p : Phase). IsAsked p n (entries.Command head.lun (command_cdb body) (command_data body)) (after_command n (frame_of head body) held place) w s) (sym in_n)
-      (asks (In n) n (entries.Command head.lun (command_cdb body) (command_data body)) (after_command n (frame_of head body) held place) w s (Command head n cdb sent) state want refl act short refl
-        (λ out. ap (λ (h : List ℕ). next_by (Command head n cdb sent) h (place_of s.deframer) out) is_held ∙ ap (λ (p : ℕ). next_by (Command head n cdb sent) held p out) is_place ∙ command_next head body n cdb sent held place out)))
+which : {A B C : Type 0} → (a b c : Bool) → (a || b || c) ≡ true → (a ≡ true → A) → (b ≡ true → B) → (c ≡ true → C) → A ⊎ (B ⊎ C)
+which true b c some f g h = inl (f refl)
+which false true c some f g h = inr (inl (g refl))
+which false false true some f g h = inr (inr (h refl))
+which false false false some f g h = absurd cc
 
--- the data-out of a Command, in the work buffer
-pub sent_data : (work : List ℕ) (body : ℕ) → 20 ≤ body → take (body - 20) (drop 20 work) ≡ command_data (take body work)
-sent_data work body long =
-    let e : 20 + (body - 20) ≡ body = omega arith in
-    sym (drop-take 20 (body - 20) work) ∙ ap (λ (k : ℕ). drop 20 (take k work)) e
+abbrev asked_of : ℕ → Phase → ℕ → ℕ → ℕ → List ℕ → List ℕ → Type 0
+asked_of kind p place lun tag body rest = asked p place (frame kind lun tag body) rest ≡ asked_by p place (frame kind lun tag body) rest (request_of kind body)
+
+by_phase : (p : Phase) (place lun tag : ℕ) (body rest : List ℕ) → asked_of 1 p place lun tag body rest × asked_of 2 p place lun tag body rest × asked_of 3 p place lun tag body rest
+by_phase lanes.Dead place lun tag body rest = (refl, refl, refl)
+by_phase Fresh place lun tag body rest = (refl, refl, refl)
+by_phase (In n) place lun tag body rest = (refl, refl, refl)
+
+pub asked_is : (p : Phase) (place kind lun tag : ℕ) (body rest : List ℕ) → is_kind Target kind ≡ true → asked p place (frame kind lun tag body) rest ≡ asked_by p place (frame kind lun tag body) rest (request_of kind body)
+asked_is p place kind lun tag body rest is =
+    let all = by_phase p place lun tag body rest in
+    let goes : (k : ℕ) → kind ≡ k → asked_of k p place lun tag body rest → asked_of kind p place lun tag body rest = λ k same made. subst (λ (x : ℕ). asked_of x p place lun tag body rest) (sym same) made in
+    let choice : (kind ≡ 1) ⊎ ((kind ≡ 2) ⊎ (kind ≡ 3)) = which (kind == 1) (kind == 2) (kind == 3) is (eqb-true kind 1) (eqb-true kind 2) (eqb-true kind 3) in
+    elim choice [ inl one ↦ goes 1 one all.0 | inr (inl two) ↦ goes 2 two all.1 | inr (inr three) ↦ goes 3 three all.2 ]
+
+-- a request of a frame's body
+abbrev nexus_or : Nexus → Request → Nexus
+nexus_or d (requests.Login version n) = n
+nexus_or d _ = d
+
+abbrev count_or : ℕ → Request → ℕ
+count_or d (requests.Command cdb sent) = sent
+count_or d _ = d
+
+login_if : (body cdb : List ℕ) (count version : ℕ) (n : Nexus) (a b : Bool) → (if a then requests.Login (login_version body) (login_nexus body) else if b then requests.Command cdb count else requests.Logout) ≡ requests.Login version n → n ≡ login_nexus body
+login_if body cdb count version n true b is = sym (ap (nexus_or n) is)
+login_if body cdb count version n false true is = absurd cc
+login_if body cdb count version n false false is = absurd cc
+
+pub login_read : (kind : ℕ) (body : List ℕ) (version : ℕ) (n : Nexus) → request_of kind body ≡ requests.Login version n → n ≡ login_nexus body
+login_read kind body version n is = login_if body (command_cdb body) (length (command_data body)) version n (kind == 1) (kind == 2) is
+
+command_if : (body cdb other : List ℕ) (count sent : ℕ) (a b : Bool) → (if a then requests.Login (login_version body) (login_nexus body) else if b then requests.Command other count else requests.Logout) ≡ requests.Command cdb sent → sent ≡ count
+command_if body cdb other count sent true b is = absurd cc
+command_if body cdb other count sent false true is = sym (ap (count_or sent) is)
+command_if body cdb other count sent false false is = absurd cc
+
+pub command_read : (kind : ℕ) (body cdb : List ℕ) (sent : ℕ) → request_of kind body ≡ requests.Command cdb sent → sent ≡ length (command_data body)
+command_read kind body cdb sent is = command_if body cdb (command_cdb body) (length (command_data body)) sent (kind == 1) (kind == 2) is
+
+-- what a frame that came asks for
+pub serves : (from p : Phase) (place : ℕ) (g : Frame) (body held : List ℕ) (r : Request) → from ≡ p → is_kind Target g.kind ≡ true → request_of g.kind body ≡ r → asked from place (frame_of g body) held ≡ asked_by p place (frame_of g body) held r
+serves from p place g body held r same is read =
+    ap (λ (x : Phase). asked x place (frame_of g body) held) same ∙ asked_is p place g.kind g.lun g.tag body held is ∙ ap (asked_by p place (frame_of g body) held) read

@@ -17,7 +17,6 @@ use Rattle.pr_core.proofs.Entering.{extends_none}
 use Rattle.pr_core.specs.declared.answers.CommandOut.TheVariants as answers
 use Rattle.pr_link.specs.declared.deframer.Deframer.{Deframer}
 use Rattle.pr_link.specs.Deframer.{held_of, place_of}
-use Rattle.pr_session.specs.declared.act.CdbBytes.{CdbBytes}
 use Rattle.pr_session.specs.declared.act.Act.{Act}
 use Rattle.pr_session.specs.declared.act.Act.TheVariants as act
 use Rattle.pr_session.specs.declared.act.Out.{Out}
@@ -86,7 +85,7 @@ login_agrees : {M D : Type 0} {gm : media.Ghosts M} {gd : disks.Ghosts D} (who :
 login_agrees who new n true owns = owns refl
 login_agrees who new n false owns = tt
 
-command_agrees : {M D : Type 0} {gm : media.Ghosts M} {gd : disks.Ghosts D} (who : ℕ) (old new : Core M D gm gd) (from : Phase) (n : Nexus) (lun sent : ℕ) (cdb : CdbBytes) → IsFor from n (act.Command lun cdb sent) → owner_of new ≡ owner_of old → Agrees from who old → owner_of new n ≡ Some who
+command_agrees : {M D : Type 0} {gm : media.Ghosts M} {gd : disks.Ghosts D} (who : ℕ) (old new : Core M D gm gd) (from : Phase) (n : Nexus) (lun sent : ℕ) (cdb : List ℕ) → IsFor from n (act.Command lun cdb sent) → owner_of new ≡ owner_of old → Agrees from who old → owner_of new n ≡ Some who
 command_agrees who old new lanes.Fresh n lun sent cdb is same agrees = absurd is
 command_agrees who old new lanes.Dead n lun sent cdb is same agrees = absurd is
 command_agrees who old new (lanes.In m) n lun sent cdb is same agrees = ap (λ (owner : Nexus → Option ℕ). owner n) same ∙ ap (owner_of old) (sym is) ∙ agrees

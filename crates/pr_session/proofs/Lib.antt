@@ -1,5 +1,4 @@
 mod Parts
-mod Replying
 mod Turns
 mod Askings
 mod Drivings

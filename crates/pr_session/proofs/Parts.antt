@@ -1,10 +1,9 @@
--- The parts of a Command's body.
-use Rattle.std.proofs.Common.{◌≡◌, ℕ, ◌+◌, ◌-◌, ◌≤◌, ◌<◌, ◌&&◌, Bool, true, false, not, ltb, List, [], ◌∷◌, ◌++◌, length, take, drop, slice_index, refl, sym, ap, ◌∙◌, arith, subst}
-use Rattle.std.specs.Prelude.{slice_range, slice_index_or}
-use Rattle.std.proofs.lemmas.List.{take-take, drop_at, length-take}
-use Rattle.std.proofs.lemmas.Bool.{ltb-false, ltb-true}
+-- The parts of a work buffer.
+use Rattle.std.proofs.Common.{◌≡◌, ℕ, ◌+◌, ◌-◌, ◌≤◌, ◌<◌, ◌⊎◌, inl, inr, true, false, leb, List, [], ◌∷◌, ◌++◌, length, take, drop, sym, ap, ◌∙◌, arith}
+use Rattle.std.proofs.lemmas.List.{drop_at, drop-take, length-take, length-drop, drop_all}
+use Rattle.std.proofs.lemmas.Bool.Decides.{leb_tells}
 use Rattle.pr_words.specs.declared.nexus.Nexus.{Nexus}
-use Rattle.pr_grammar.specs.Bodies.{announced_cdb, command_cdb, is_command_body}
+use Rattle.pr_grammar.specs.Bodies.{command_data}
 use Rattle.pr_model.specs.Entries.{entry, Command}
 use Rattle.pr_io.specs.declared.outside.Medium as media
 use Rattle.pr_io.specs.declared.outside.Disk as disks
@@ -12,43 +11,6 @@ use Rattle.pr_core.specs.declared.target.Core.{Core}
 use Rattle.pr_core.specs.declared.answers.CommandOut.{CommandOut}
 use Rattle.pr_core.specs.View.{Extends}
 use Rattle.pr_core.specs.Outs.{out_of}
-
-not_true : (b : Bool) → not b ≡ true → b ≡ false
-not_true true e = absurd cc
-not_true false e = refl
-
-both_first : (a b : Bool) → (a && b) ≡ true → a ≡ true
-both_first true b e = refl
-both_first false b e = absurd cc
-
-both_second : (a b : Bool) → (a && b) ≡ true → b ≡ true
-both_second true b e = e
-both_second false b e = absurd cc
-
-pub body_long : (body : List ℕ) → is_command_body body ≡ true → 20 ≤ length body
-body_long body is =
-    let long : not (ltb (length body) 20) ≡ true = both_first _ _ (both_first _ _ (both_first _ _ (both_first _ _ is))) in
-    omega (arith, ltb-false _ _ (not_true _ long))
-
-pub cdb_some : (body : List ℕ) → is_command_body body ≡ true → 0 < announced_cdb body
-cdb_some body is = ltb-true _ _ (both_second _ _ (both_first _ _ (both_first _ _ (both_first _ _ is))))
-
-pub cdb_small : (body : List ℕ) → is_command_body body ≡ true → announced_cdb body ≤ 16
-cdb_small body is =
-    let small : ltb (announced_cdb body) 17 ≡ true = both_second _ _ (both_first _ _ (both_first _ _ is)) in
-    omega (arith, ltb-true _ _ small)
-
-pub first_or_first : (body : List ℕ) → 0 < length body → slice_index_or body 0 0 ≡ slice_index body 0
-first_or_first [] some = absurd (omega arith)
-first_or_first (x ∷ xs) some = refl
-
--- the CDB is the first bytes of the place that there is for it
-pub cdb_is : (body bytes : List ℕ) (len : ℕ) → is_command_body body ≡ true → bytes ≡ slice_range body 4 20 → len ≡ slice_index_or body 0 0 → take len bytes ≡ command_cdb body
-cdb_is body bytes len is place first =
-    let at : len ≡ announced_cdb body = first ∙ first_or_first body (omega (arith, body_long body is)) in
-    let small : announced_cdb body ≤ 16 = cdb_small body is in
-    let same : 4 + announced_cdb body - 4 ≡ announced_cdb body = omega arith in
-    ap (λ (k : ℕ). take k bytes) at ∙ ap (take (announced_cdb body)) place ∙ take-take (announced_cdb body) 16 (drop 4 body) small ∙ ap (λ (k : ℕ). take k (drop 4 body)) (sym same)
 
 -- a command that was run on the data of a buffer
 pub command_entry : {M D : Type 0} {gm : media.Ghosts M} {gd : disks.Ghosts D} (old new : Core M D gm gd) (who lun sent : ℕ) (n : Nexus) (cdb work front data_out buf : List ℕ) (out : CommandOut)
@@ -59,3 +21,17 @@ command_entry old new who lun sent n cdb work front data_out buf out is_front is
     let twenty : length front ≡ 20 = omega (arith, ap length is_front, length-take 20 work, size) in
     let back : drop 20 (front ++ buf) ≡ buf = drop_at front buf 20 twenty in
     rw (sym is_data, back) made
+
+cut_data : (work : List ℕ) (body : ℕ) → ((leb 20 body ≡ true) × (20 ≤ body)) ⊎ ((leb 20 body ≡ false) × (body < 20)) → take (body - 20) (drop 20 work) ≡ command_data (take body work)
+cut_data work body (inl long) =
+    let e : 20 + (body - 20) ≡ body = omega (arith, long.1) in
+    sym (drop-take 20 (body - 20) work) ∙ ap (λ (k : ℕ). drop 20 (take k work)) e
+cut_data work body (inr short) =
+    let none : body - 20 ≡ 0 = omega (arith, short.1) in
+    ap (λ (k : ℕ). take k (drop 20 work)) none ∙ sym (drop_all 20 (take body work) (omega (arith, short.1, length-take body work)))
+
+-- the data-out of a Command's body, in the buffer
+pub data_out : (work : List ℕ) (body sent : ℕ) → body ≤ length work → sent ≡ length (command_data (take body work)) → take sent (drop 20 work) ≡ command_data (take body work)
+data_out work body sent within is =
+    let size : sent ≡ body - 20 = omega (arith, is, length-drop 20 (take body work), length-take body work, within) in
+    ap (λ (k : ℕ). take k (drop 20 work)) size ∙ cut_data work body (leb_tells 20 body)

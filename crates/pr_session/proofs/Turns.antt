@@ -1,15 +1,11 @@
 -- Which turn a deframer's answer means.
-use Rattle.std.proofs.Common.{◌≡◌, ℕ, ◌∙◌, true, List, take, refl, ap, sym, eqb}
-use Rattle.std.proofs.lemmas.Bool.{ne_eqb}
+use Rattle.std.proofs.Common.{◌≡◌, ℕ, ◌∙◌, List, take, refl, ap, sym}
 use Rattle.pr_link.specs.declared.frame.Frame.{Frame}
 use Rattle.pr_link.specs.declared.frame.Got.TheVariants as got
 use Rattle.pr_link.specs.Streams.{Stream, frame_of}
 use Rattle.pr_grammar.specs.Frames.{Front, Lacking, Broken, Whole}
 use Rattle.pr_grammar.specs.Frames as frames
-use Rattle.pr_grammar.specs.Bodies.{login_nexus, login_version, command_cdb, command_data}
-use Rattle.pr_words.specs.declared.nexus.Nexus.{Nexus}
-use Rattle.pr_model.specs.Entries.{Login, Command}
-use Rattle.pr_model.specs.Lanes.{Phase, Fresh, In, Dead, Idle, Asks, broken, asked, turn_at, after_login, after_command, place_after}
+use Rattle.pr_model.specs.Lanes.{Phase, Dead, Idle, broken, asked, turn_at}
 use Rattle.pr_session.specs.Streams.{Receives}
 
 pub dead_idle : (place : ℕ) (f : Front) → turn_at Dead place f ≡ Idle
@@ -27,17 +23,3 @@ turn_frame phase (Lacking k) old new g place buf at h = absurd h
 turn_frame phase (Broken r) old new g place buf at h = absurd h
 turn_frame phase (Whole f rest) old new g place buf at h =
     ap (λ (x : frames.Frame). asked phase old.place x rest) h.0 ∙ ap (λ (p : ℕ). asked phase p (frame_of g (take g.body buf)) rest) (sym at) ∙ ap (λ (s : Stream). asked phase place (frame_of g (take g.body buf)) s.held) (sym h.1)
-
-pub asked_login : (place : ℕ) (f : frames.Frame) (rest : List ℕ) → eqb f.kind 1 ≡ true → asked Fresh place f rest ≡ Asks (login_nexus f.body) (Login (login_version f.body)) (after_login f rest (place_after place f))
-asked_login place f rest is = rw is refl
-
-pub asked_command : (n : Nexus) (place : ℕ) (f : frames.Frame) (rest : List ℕ) → eqb f.kind 2 ≡ true
-    → asked (In n) place f rest ≡ Asks n (Command f.lun (command_cdb f.body) (command_data f.body)) (after_command n f rest (place_after place f))
-asked_command n place f rest is = rw is refl
-
--- a frame before a Login breaks a rule, and so does a Login behind one
-pub asked_early : (place : ℕ) (f : frames.Frame) (rest : List ℕ) → (f.kind ≡ 1 → ⊥) → asked Fresh place f rest ≡ broken Fresh place 5
-asked_early place f rest is_no = rw (ne_eqb f.kind 1 is_no) refl
-
-pub asked_again : (n : Nexus) (place : ℕ) (f : frames.Frame) (rest : List ℕ) → (f.kind ≡ 2 → ⊥) → (f.kind ≡ 3 → ⊥) → asked (In n) place f rest ≡ broken (In n) place 5
-asked_again n place f rest is_no_command is_no_logout = rw (ne_eqb f.kind 2 is_no_command, ne_eqb f.kind 3 is_no_logout) refl

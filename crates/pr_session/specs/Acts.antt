@@ -1,24 +1,21 @@
 -- What acts and outcomes mean, over the bytes of the work buffer.
 use Rattle.std.specs.Prelude.{◌≡◌, ℕ, ◌≤◌, List, take, drop, Option, Some}
+use Rattle.pr_words.specs.declared.limits.TheConstants.{DATA, COMMAND_HEAD}
 use Rattle.pr_words.specs.declared.nexus.Nexus.{Nexus}
 use Rattle.pr_model.specs.Entries as entries
 use Rattle.pr_core.specs.Outs.{out_of, IsProper}
-use Rattle.pr_session.specs.declared.act.CdbBytes.{CdbBytes}
 use Rattle.pr_session.specs.declared.act.Act.{Act}
 use Rattle.pr_session.specs.declared.act.Act.TheVariants.{Login, Command, Logout}
 use Rattle.pr_session.specs.declared.act.Out.{Out}
 use Rattle.pr_session.specs.declared.act.Out.TheVariants as outs
 
-abbrev pub cdb_of : CdbBytes → List ℕ
-cdb_of c = take c.len c.bytes
-
--- the data of a command, out and in: what stands behind the first 20 bytes
+-- the data of a command, out and in
 abbrev pub data_in : List ℕ → List ℕ
-data_in work = drop 20 work
+data_in work = drop COMMAND_HEAD work
 
 abbrev pub act_of : Act → List ℕ → entries.Act
 act_of (Login version) work = entries.Login version
-act_of (Command lun cdb sent) work = entries.Command lun (cdb_of cdb) (take sent (data_in work))
+act_of (Command lun cdb sent) work = entries.Command lun cdb (take sent (data_in work))
 act_of Logout work = entries.Logout
 
 abbrev pub outcome_of : Out → List ℕ → entries.Out
@@ -33,10 +30,10 @@ Fits (Command lun cdb sent) (outs.Command out) = IsProper out
 Fits Logout outs.Logout = Unit {0}
 Fits _ _ = ⊥
 
--- data-out is at most 524,288 bytes
+-- data-out of no more bytes than a frame can carry
 abbrev pub IsShort : Act → Type 0
 IsShort (Login version) = Unit {0}
-IsShort (Command lun cdb sent) = sent ≤ 524288
+IsShort (Command lun cdb sent) = sent ≤ DATA
 IsShort Logout = Unit {0}
 
 -- the nexus of an act other than a login is logged in under its number before it

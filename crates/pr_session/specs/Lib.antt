@@ -1,4 +1,3 @@
-pub mod Rooms
 pub mod Works
 pub mod Streams
 pub mod Acts

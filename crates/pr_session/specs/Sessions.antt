@@ -12,6 +12,7 @@ use Rattle.pr_session.specs.declared.asked.Asked.{Asked}
 use Rattle.pr_session.specs.Acts.{Fits}
 use Rattle.pr_session.specs.Asking.{act_in}
 use Rattle.pr_session.specs.States.{IsSettledIn, phase_of, nexus_at, rejection_at, next_at}
+use Rattle.pr_session.specs.declared.work.TheConstants.{ROOM}
 use Rattle.pr_session.specs.Works.{bytes_of}
 
 abbrev pub IsSettled : Session → Type 0
@@ -34,7 +35,7 @@ reply_of s = slice_range (work_of s) s.start s.stop
 
 -- the four bytes in front of it
 abbrev pub room_of : Session → List ℕ
-room_of s = slice_range (work_of s) (s.start - 4) s.start
+room_of s = slice_range (work_of s) (s.start - ROOM) s.start
 
 abbrev pub nexus_of : Session → Option Nexus
 nexus_of s = nexus_at s.state

@@ -1,8 +1,8 @@
 //! A turn that waits for the outcome of its act.
 
-use crate::act::{Act, CdbBytes, Want};
+use crate::act::{Act, Want};
 use crate::state::Rejection;
-use pr_link::Frame;
+use pr_link::{Frame, RawCdb};
 use pr_words::Nexus;
 
 /// An act that was asked for, and what its reply needs.
@@ -18,7 +18,7 @@ pub(crate) enum Asked {
     Command {
         head: Frame,
         nexus: Nexus,
-        cdb: CdbBytes,
+        cdb: RawCdb,
         out_len: usize,
     },
     /// A Logout frame's.

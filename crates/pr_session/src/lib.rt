@@ -5,12 +5,11 @@
 mod act;
 mod asked;
 mod driving;
-mod heads;
 mod session;
 mod state;
 mod work;
 
-pub use act::{Act, CdbBytes, Out, Want};
+pub use act::{Act, Out, Want};
 pub use driving::{close, drive};
 pub use session::Session;
 pub use state::Rejection;

@@ -1,33 +1,32 @@
 //! The session of one connection.
 
-ghost use Rattle.std.specs.Prelude.{◌≡◌, ◌+◌, ◌-◌, ◌≤◌, ◌<◌, ◌++◌, ◌∷◌, [], Some, None, true, take, drop, length, slice_range, IfOk, MatchBool, ℕ};
-ghost use Rattle.pr_grammar.specs.Bodies.{login_version, login_nexus, login_reply, command_cdb, command_data, is_command_body};
+ghost use Rattle.std.specs.Prelude.{◌≡◌, ◌+◌, ◌-◌, ◌≤◌, ◌<◌, ◌++◌, ◌∷◌, [], Some, None, true, take, drop, length, slice_range, IfOk, MatchBool, ℕ, List};
+ghost use Rattle.pr_grammar.specs.Bodies.{login_reply};
 ghost use Rattle.pr_grammar.specs.Frames.{front, frame, spelled};
-ghost use Rattle.pr_grammar.specs.Frames as frames;
 ghost use Rattle.pr_words.specs.declared.nexus.Nexus.{Nexus};
 ghost use Rattle.pr_words.specs.declared.nexus.Side.TheVariants.{Target};
-ghost use Rattle.pr_model.specs.Limits.{HELD};
-ghost use Rattle.pr_model.specs.Entries.{entry, Login, Command};
-ghost use Rattle.pr_model.specs.Lanes.{Lane, lane, turn, broken, asked, fresh, dead, arrived, rejected, turned, place_after, phase_after_login, after_login, after_command, Asks};
+ghost use Rattle.pr_words.specs.declared.limits.TheConstants.{HELD, COMMAND_HEAD};
+ghost use Rattle.pr_session.specs.declared.work.TheConstants.{ROOM};
+ghost use Rattle.pr_link.specs.Replies.{IsWritable, reply_frame, data_in_of};
+ghost use Rattle.pr_model.specs.Entries.{entry};
+ghost use Rattle.pr_model.specs.Lanes.{Lane, lane, turn, broken, asked, fresh, dead, arrived, rejected, turned, place_after, phase_after_login, after_command};
 ghost use Rattle.pr_model.specs.Lanes as lanes;
-ghost use Rattle.pr_core.specs.Outs.{IsProper};
+ghost use Rattle.pr_core.specs.Outs.{IsProper, out_of};
 ghost use Rattle.pr_core.specs.View.{owner_of, KeepsOthers, Extends};
 ghost use Rattle.pr_link.specs.Streams as streams;
 ghost use Rattle.pr_link.specs.Deframer.{stream_of, held_of, place_of};
 ghost use Rattle.pr_session.specs.Streams.{IsIntact};
-ghost use Rattle.pr_session.specs.Rooms.{answer_body};
 ghost use Rattle.pr_session.specs.States.{IsSettledIn, phase_of, living, rejection_at, rejection_in};
 ghost use Rattle.pr_session.specs.Acts.{act_of, outcome_of, Fits, IsShort, IsOwner, Owns};
 
-use crate::act::{Act, CdbBytes, Out, Want};
+use crate::act::{Act, Out, Want};
 use crate::asked::Asked;
-use crate::heads::{empty_head, reject_head, reply_head};
 use crate::state::{Rejection, State};
-use crate::work::{REPLY_PLACE, Work};
+use crate::work::{ROOM, Work};
 use pr_core::{CommandOut, Core};
 use pr_io::{Disk, Medium};
-use pr_link::{Deframer, Frame, Got};
-use pr_words::{Nexus, Side, get_u16, get_u64};
+use pr_link::{Deframer, Frame, Got, Reply, Request};
+use pr_words::{Nexus, Side};
 use std::alloc::{AllocError, Global};
 
 /// The session of one connection: it takes bytes, says what they ask for, is told how that came
@@ -43,9 +42,9 @@ pub struct Session {
     start: usize,
     stop: usize,
     ghost sound: { IsIntact (stream_of deframer) },
-    ghost roomed: { 4 ≤ start },
+    ghost roomed: { ROOM ≤ start },
     ghost order: { start ≤ stop },
-    ghost within: { stop ≤ 524320 },
+    ghost within: { stop ≤ HELD },
 }
 
 impl Session {
@@ -63,8 +62,8 @@ impl Session {
             deframer: Deframer::new(alloc, Side::Target)?,
             work: Work::new(alloc)?,
             state: State::Fresh,
-            start: REPLY_PLACE,
-            stop: REPLY_PLACE,
+            start: ROOM,
+            stop: ROOM,
         })
     }
 
@@ -75,8 +74,8 @@ impl Session {
     {
         self.deframer.restart();
         self.state = State::Fresh;
-        self.start = REPLY_PLACE;
-        self.stop = REPLY_PLACE;
+        self.start = ROOM;
+        self.stop = ROOM;
     }
 
     /// How many bytes of the connection are held. With the work buffer a session holds 1,048,640
@@ -156,8 +155,8 @@ impl Session {
     {
         self.start += n;
         if self.start == self.stop {
-            self.start = REPLY_PLACE;
-            self.stop = REPLY_PLACE;
+            self.start = ROOM;
+            self.stop = ROOM;
         }
     }
 
@@ -167,14 +166,14 @@ impl Session {
         ensures reply { reply_of self.new ≡ reply_of self.old }
         ensures keeps { IsKept self.old self.new }
     {
-        self.work.write_at(self.start - REPLY_PLACE, &head);
+        self.work.write_at(self.start - ROOM, &head);
     }
 
     /// The four bytes in front of the reply, and the reply.
     pub fn headed_reply(&self) -> &[u8]
         ensures { result.now ≡ room_of self.now ++ reply_of self.now }
     {
-        self.work.range(self.start - REPLY_PLACE, self.stop)
+        self.work.range(self.start - ROOM, self.stop)
     }
 
     /// What it wants next. Asked again before the answer it wants the same.
@@ -248,60 +247,27 @@ impl Session {
             (held_of self.old.deframer)) result self.new }
     {
         let rejection = Rejection { place, reason: 5 };
+        let request = Request::read(head.kind, self.work.front(head.body));
         match logged_in {
-            None => {
-                if head.kind == 0x01 {
-                    self.ask_login(head)
-                } else {
-                    self.refuse(None, rejection)
-                }
-            }
-            Some(nexus) => {
-                if head.kind == 0x02 {
-                    self.ask_command(head, nexus)
-                } else if head.kind == 0x03 {
-                    self.ask(Asked::Logout { head, nexus })
-                } else {
-                    self.refuse(Some(nexus), rejection)
-                }
-            }
+            None => match request {
+                Request::Login { version, nexus } => self.ask(Asked::Login {
+                    head,
+                    nexus,
+                    version,
+                }),
+                Request::Command { .. } | Request::Logout => self.refuse(None, rejection),
+            },
+            Some(nexus) => match request {
+                Request::Command { cdb, data_out } => self.ask(Asked::Command {
+                    head,
+                    nexus,
+                    cdb,
+                    out_len: data_out,
+                }),
+                Request::Logout => self.ask(Asked::Logout { head, nexus }),
+                Request::Login { .. } => self.refuse(Some(nexus), rejection),
+            },
         }
-    }
-
-    /// A Login's act.
-    fn ask_login(&mut self, head: Frame) -> Want
-        requires body { head.body ≡ 12 }
-        ensures { (l : Lane) (f : frames.Frame) → l.phase ≡ lanes.Fresh
-            → f ≡ streams.frame_of head (take head.body (work_of self.old))
-            → Begins l (Asks (login_nexus f.body) (Login (login_version f.body))
-            (after_login f (held_of self.old.deframer) (place_of self.old.deframer)))
-            result self.new }
-    {
-        let (version, nexus) = login_of(self.work.front(head.body));
-        self.ask(Asked::Login {
-            head,
-            nexus,
-            version,
-        })
-    }
-
-    /// A Command's act.
-    fn ask_command(&mut self, head: Frame, nexus: Nexus) -> Want
-        requires body { is_command_body (take head.body (work_of self.old)) ≡ true }
-        requires bound { head.body ≤ 524308 }
-        ensures { (l : Lane) (f : frames.Frame) → l.phase ≡ lanes.In nexus
-            → f ≡ streams.frame_of head (take head.body (work_of self.old))
-            → Begins l (Asks nexus (Command f.lun (command_cdb f.body) (command_data f.body))
-            (after_command nexus f (held_of self.old.deframer) (place_of self.old.deframer)))
-            result self.new }
-    {
-        let cdb = CdbBytes::of(self.work.front(head.body));
-        self.ask(Asked::Command {
-            head,
-            nexus,
-            cdb,
-            out_len: head.body - 20,
-        })
     }
 
     /// Has an act done by a target, under a number.
@@ -356,14 +322,16 @@ impl Session {
         }
     }
 
-    /// The reply that stands from its place on, so many bytes long, waits.
-    fn reply_with(&mut self, len: usize)
-        requires { len ≤ 524316 }
-        ensures reply { reply_of self.new ≡ take len (drop 4 (work_of self.old)) }
+    /// A reply to a request with this LUN and tag waits.
+    fn reply_with(&mut self, lun: u16, tag: u32, reply: &Reply)
+        requires { IsWritable reply.now }
+        ensures reply { reply_of self.new ≡ spelled (reply_frame reply.now lun tag
+            (take (data_in_of reply.now) (drop COMMAND_HEAD (work_of self.old)))) }
         ensures keeps { IsKept self.old self.new }
     {
-        self.start = REPLY_PLACE;
-        self.stop = REPLY_PLACE + len;
+        let len = self.work.write_reply(lun, tag, reply);
+        self.start = ROOM;
+        self.stop = ROOM + len;
     }
 
     /// A Login is answered with a code.
@@ -374,23 +342,21 @@ impl Session {
         ensures rejection { rejection_of self.new ≡ None }
     {
         self.state = state_after(nexus, code);
-        let text = reply_head(0x81, head.lun, head.tag, [code, 0, 0, 0], 0);
-        self.work.write_front(&text);
-        self.reply_with(16);
+        self.reply_with(head.lun, head.tag, &Reply::Login { code });
     }
 
     /// A command is answered.
     fn answer_command(&mut self, head: Frame, nexus: Nexus, out: CommandOut)
         requires { IsProper out }
-        ensures turned { HasTurned self.new (turned (lane (held_of self.old.deframer)
-            (lanes.In nexus) (place_of self.old.deframer))
-            (spelled (frame 0x82 head.lun head.tag
-            (answer_body out (drop 20 (work_of self.old)))))) }
+        ensures turned { (held : List ℕ) (place : ℕ) → held ≡ held_of self.old.deframer →
+            place ≡ place_of self.old.deframer → HasTurned self.new
+            (after_command nexus (streams.frame_of head []) held place
+            (out_of out (drop COMMAND_HEAD (work_of self.old)))) }
         ensures rejection { rejection_of self.new ≡ None }
     {
         self.state = State::In(nexus);
-        let len = self.work.write_answer(head, out);
-        self.reply_with(len);
+        let CommandOut::Ended { status, sense, len } = out;
+        self.reply_with(head.lun, head.tag, &Reply::of_command(status, sense, len));
     }
 
     /// A Logout is answered, and the session ends.
@@ -401,8 +367,7 @@ impl Session {
     {
         self.deframer.restart();
         self.state = State::Dead(None);
-        self.work.write_front(&empty_head(0x83, head.lun, head.tag));
-        self.reply_with(12);
+        self.reply_with(head.lun, head.tag, &Reply::Logout);
     }
 
     /// The session ends with a Reject.
@@ -412,8 +377,8 @@ impl Session {
     {
         self.deframer.restart();
         self.state = State::Dead(Some(rejection));
-        self.work.write_front(&reject_head(rejection.reason, rejection.place));
-        self.reply_with(24);
+        let Rejection { place, reason } = rejection;
+        self.reply_with(0, 0, &Reply::Reject { reason, place });
     }
 }
 
@@ -428,17 +393,4 @@ fn state_after(nexus: Nexus, code: u8) -> State
     } else {
         State::Fresh
     }
-}
-
-/// What a Login's body says: the version of the link's protocol, and the nexus.
-fn login_of(body: &[u8]) -> (u8, Nexus)
-    requires { length body.now ≡ 12 }
-    ensures version { result.0 ≡ login_version body.now }
-    ensures nexus { result.1 ≡ login_nexus body.now }
-{
-    let nexus = Nexus {
-        name: get_u64(body, 4),
-        port: get_u16(body, 2),
-    };
-    (body[0], nexus)
 }

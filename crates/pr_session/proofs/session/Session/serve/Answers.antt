@@ -1,42 +1,67 @@
-use Rattle.std.proofs.Common.{◌≡◌, ℕ, List, Option, true, take, refl, sym, ap, ◌∙◌, subst, eq-eqb}
+use Rattle.std.proofs.Common.{◌≡◌, ℕ, List, take, drop, length, refl, sym, ap, ◌∙◌, subst, arith, ◌≤◌, inl, inr}
+use Rattle.std.proofs.lemmas.List.{length-drop, length-take}
 use Rattle.pr_words.specs.declared.nexus.Nexus.{Nexus}
-use Rattle.pr_grammar.specs.Bodies.{login_nexus, login_version, command_cdb, command_data}
-use Rattle.pr_model.specs.Entries.{Login, Command}
-use Rattle.pr_model.specs.Lanes.{Turn, Asks, asked, after_login, after_command}
+use Rattle.pr_grammar.specs.Bodies.{command_data}
+use Rattle.pr_model.specs.Entries as entries
+use Rattle.pr_model.specs.Lanes.{Phase, Fresh, In, Turn, Asks, asked, broken, after_command, place_after}
+use Rattle.pr_link.specs.declared.request.Request.{Request}
+use Rattle.pr_link.specs.declared.request.Request.TheVariants.{Login, Command, Logout}
 use Rattle.pr_link.specs.Streams.{frame_of}
-use Rattle.pr_link.specs.Deframer.{held_of}
+use Rattle.pr_link.specs.Deframer.{held_of, place_of}
+use Rattle.pr_link.specs.Requests.{request_of}
+use Rattle.pr_session.specs.declared.asked.Asked.TheVariants as what
+use Rattle.pr_session.specs.Asking.{next_by}
 use Rattle.pr_session.specs.States.{phase_of, living}
+use Rattle.pr_session.specs.Works.{bytes_of}
 use Rattle.pr_session.specs.Sessions.{work_of}
-use Rattle.pr_session.specs.Turning.{Begins}
-use Rattle.pr_session.proofs.Turns.{asked_login, asked_command, asked_early, asked_again}
+use Rattle.pr_session.specs.Turning.{Begins, IsAsked}
+use Rattle.pr_session.proofs.Parts.{data_out}
+use Rattle.pr_session.proofs.Askings.{serves, asks, command_next, command_read}
 use Rattle.pr_session.proofs.session.Session.serve.Goals as goal
 
-pub returns-then-head-eq1 : goal.returns-then-head-eq1
-returns-then-head-eq1 c l same =
-    let f = frame_of c.args.head (take c.args.head.body (work_of c.args.self.now)) in
+pub returns-in-Command : goal.returns-in-Command
+returns-in-Command c l same =
+    let body : List ℕ = take c.args.head.body (work_of c.args.self.now) in
     let held : List ℕ = held_of c.args.self.now.deframer in
-    let turn = ap (λ x. asked (phase_of (living x)) c.args.place f held) c.in-None.is ∙ asked_login c.args.place f held (eq-eqb _ 1 c.if-head-eq1.true)
-    ∙ ap (λ (p : ℕ). Asks (login_nexus f.body) (Login (login_version f.body)) (after_login f held p)) (sym c.requires.placed) in
-    subst (λ (t : Turn). Begins l t c.ask_login.result c.ask_login.new.self) (sym turn) (c.ask_login.ensures l f (same ∙ ap (λ x. phase_of (living x)) c.in-None.is) refl)
+    let from : phase_of (living c.args.logged_in) ≡ Fresh = ap (λ x. phase_of (living x)) c.in-None.is in
+    let read : request_of c.args.head.kind body ≡ c.read-request.result = sym (c.read-request.ensures ∙ ap (request_of c.args.head.kind) c.front.ensures) in
+    let refused : Begins l (broken Fresh c.args.place 5) c.refuse.result c.refuse.new.self = c.refuse.ensures l (same ∙ from) in
+    let turn : asked (phase_of (living c.args.logged_in)) c.args.place (frame_of c.args.head body) held ≡ broken Fresh c.args.place 5 =
+    elim c.in-Command.is [
+      inl (cdb, sent, is) ↦ serves _ Fresh c.args.place c.args.head body held (Command cdb sent) from c.requires.formed.2 (read ∙ is)
+    | inr is ↦ serves _ Fresh c.args.place c.args.head body held Logout from c.requires.formed.2 (read ∙ is)
+    ] in
+    subst (λ (t : Turn). Begins l t c.refuse.result c.refuse.new.self) (sym turn) refused
 
-pub returns-else-head-eq1 : goal.returns-else-head-eq1
-returns-else-head-eq1 c l same =
-    let f = frame_of c.args.head (take c.args.head.body (work_of c.args.self.now)) in
+pub returns-in-Command-request : goal.returns-in-Command-request
+returns-in-Command-request c l same =
+    let work : List ℕ = work_of c.args.self.now in
+    let body : List ℕ = take c.args.head.body work in
     let held : List ℕ = held_of c.args.self.now.deframer in
-    let turn = ap (λ x. asked (phase_of (living x)) c.args.place f held) c.in-None.is ∙ asked_early c.args.place f held c.if-head-eq1.false in
-    subst (λ (t : Turn). Begins l t c.refuse.result c.refuse.new.self) (sym turn) (c.refuse.ensures l (same ∙ ap (λ x. phase_of (living x)) c.in-None.is))
+    let place : ℕ = place_of c.args.self.now.deframer in
+    let n : Nexus = c.in-Some.nexus in
+    let lun : ℕ = c.args.head.lun in
+    let cdb : List ℕ = c.in-Command-request.cdb in
+    let sent : ℕ = c.in-Command-request.data_out in
+    let after = c.ask-in-Command-request in
+    let from : phase_of (living c.args.logged_in) ≡ In n = ap (λ x. phase_of (living x)) c.in-Some.is in
+    let read : request_of c.args.head.kind body ≡ Command cdb sent = sym (c.read-request.ensures ∙ ap (request_of c.args.head.kind) c.front.ensures) ∙ c.in-Command-request.is in
+    let counted : sent ≡ length (command_data body) = command_read c.args.head.kind body cdb sent read in
+    let turn = serves _ (In n) c.args.place c.args.head body held (Command cdb sent) from c.requires.formed.2 read
+    ∙ ap (λ (p : ℕ). Asks n (entries.Command lun cdb (command_data body)) (after_command n (frame_of c.args.head body) held p)) (sym c.requires.placed) in
+    let within : c.args.head.body ≤ length work = omega (arith, c.requires.formed.0, c.args.self.now.work.room) in
+    let short : sent ≤ 524288 = omega (arith, counted, length-drop 20 body, length-take c.args.head.body work, c.requires.formed.0) in
+    let act = ap (λ w. entries.Command lun cdb (take sent (drop 20 (bytes_of w)))) after.ensures.work ∙ ap (entries.Command lun cdb) (data_out work c.args.head.body sent within counted) in
+    let next = λ (out : entries.Out). ap (λ d. next_by (what.Command c.args.head n cdb sent) (held_of d) (place_of d) out) after.ensures.stream ∙ command_next c.args.head body n cdb sent held place out in
+    let wanted = asks (In n) n (entries.Command lun cdb (command_data body)) (after_command n (frame_of c.args.head body) held place) after.result after.new.self (what.Command c.args.head n cdb sent) after.ensures.state after.ensures.want refl act short refl next in
+    subst (λ (t : Turn). Begins l t after.result after.new.self) (sym turn) (subst (λ (p : Phase). IsAsked p n (entries.Command lun cdb (command_data body)) (after_command n (frame_of c.args.head body) held place) after.result after.new.self) (sym (same ∙ from)) wanted)
 
-pub returns-then-head-eq2 : goal.returns-then-head-eq2
-returns-then-head-eq2 c l same =
-    let f = frame_of c.args.head (take c.args.head.body (work_of c.args.self.now)) in
+pub returns-in-Login-request : goal.returns-in-Login-request
+returns-in-Login-request c l same =
+    let body : List ℕ = take c.args.head.body (work_of c.args.self.now) in
     let held : List ℕ = held_of c.args.self.now.deframer in
-    let turn = ap (λ x. asked (phase_of (living x)) c.args.place f held) c.in-Some.is ∙ asked_command c.in-Some.nexus c.args.place f held (eq-eqb _ 2 c.if-head-eq2.true)
-    ∙ ap (λ (p : ℕ). Asks c.in-Some.nexus (Command f.lun (command_cdb f.body) (command_data f.body)) (after_command c.in-Some.nexus f held p)) (sym c.requires.placed) in
-    subst (λ (t : Turn). Begins l t c.ask_command.result c.ask_command.new.self) (sym turn) (c.ask_command.ensures l f (same ∙ ap (λ x. phase_of (living x)) c.in-Some.is) refl)
-
-pub returns-else-head-eq3 : goal.returns-else-head-eq3
-returns-else-head-eq3 c l same =
-    let f = frame_of c.args.head (take c.args.head.body (work_of c.args.self.now)) in
-    let held : List ℕ = held_of c.args.self.now.deframer in
-    let turn = ap (λ x. asked (phase_of (living x)) c.args.place f held) c.in-Some.is ∙ asked_again c.in-Some.nexus c.args.place f held c.if-head-eq2.false c.if-head-eq3.false in
-    subst (λ (t : Turn). Begins l t c.refuse-else-head-eq3.result c.refuse-else-head-eq3.new.self) (sym turn) (c.refuse-else-head-eq3.ensures l (same ∙ ap (λ x. phase_of (living x)) c.in-Some.is))
+    let n : Nexus = c.in-Some.nexus in
+    let from : phase_of (living c.args.logged_in) ≡ In n = ap (λ x. phase_of (living x)) c.in-Some.is in
+    let read : request_of c.args.head.kind body ≡ Login c.in-Login-request.version c.in-Login-request.nexus = sym (c.read-request.ensures ∙ ap (request_of c.args.head.kind) c.front.ensures) ∙ c.in-Login-request.is in
+    let turn = serves _ (In n) c.args.place c.args.head body held (Login c.in-Login-request.version c.in-Login-request.nexus) from c.requires.formed.2 read in
+    subst (λ (t : Turn). Begins l t c.refuse-in-Login-request.result c.refuse-in-Login-request.new.self) (sym turn) (c.refuse-in-Login-request.ensures l (same ∙ from))
