@@ -1,22 +1,29 @@
 -- A command is admitted or refused by its checks, and makes one entry.
-use Rattle.std.proofs.Common.{◌≡◌, ℕ, ◌<◌, ◌++◌, Bool, true, false, List, [], ◌∷◌, Option, Some, None, Result, Ok, Err, IsErr, IsErrAnd, refl, sym, ap, ◌∙◌, subst, lit<, take}
+use Rattle.std.proofs.Common.{◌≡◌, ℕ, ◌++◌, Bool, true, false, not, List, [], ◌∷◌, Option, Some, None, Result, Ok, Err, IsErr, IsErrAnd, refl, sym, ap, ◌∙◌, subst, lit<, take}
+use Rattle.std.proofs.lemmas.Bool.{false≢true}
 use Rattle.pr_words.specs.declared.nexus.Nexus.{Nexus}
+use Rattle.pr_words.specs.declared.reservation.Kind.{Kind}
+use Rattle.pr_words.specs.declared.reservation.Kind.TheVariants.{WriteExclusive, ExclusiveAccess, WriteRegistrants, ExclusiveRegistrants, WriteAll, ExclusiveAll}
+use Rattle.pr_words.specs.declared.role.Role.{Role}
+use Rattle.pr_words.specs.declared.role.Role.TheVariants.{Holder, Registered, Stranger}
+use Rattle.pr_grammar.specs.declared.cdb.Class.{Class}
+use Rattle.pr_grammar.specs.declared.cdb.Class.TheVariants.{Free}
+use Rattle.pr_grammar.specs.declared.operation.OperationCode.TheVariants as operations
+use Rattle.pr_grammar.specs.Standings.{kind_of}
+use Rattle.pr_model.specs.Conflicts.{conflicts_in, role_of}
 use Rattle.pr_words.specs.declared.code.Code.{Code}
 use Rattle.pr_words.specs.declared.code.Status.TheVariants as status
 use Rattle.pr_words.specs.Services.{out_service_code}
 use Rattle.pr_grammar.specs.declared.operation.OperationCode.{OperationCode}
 use Rattle.pr_grammar.specs.declared.cdb.Command.{Command}
-use Rattle.pr_grammar.specs.declared.cdb.Command.TheVariants.{RequestSense, ReserveOut}
 use Rattle.pr_grammar.specs.declared.param.OutList.{OutList}
-use Rattle.pr_grammar.specs.Operations.{operation_at}
+use Rattle.pr_grammar.specs.Operations.{operation_at, class_in}
 use Rattle.pr_grammar.specs.Cdbs.{operation_code, command_by, command_in, command_of}
-use Rattle.pr_grammar.specs.OutLists.{list_of}
 use Rattle.pr_model.specs.Limits.{LIMIT}
-use Rattle.pr_model.specs.Acts as acts
 use Rattle.pr_model.specs.Acts.{acted}
 use Rattle.pr_model.specs.Worlds.{World}
 use Rattle.pr_model.specs.Entries.{entry, Out, Command as Commands}
-use Rattle.pr_model.specs.Commands.{Answer, answer, good, checking, is_elsewhere, attention_check, refused_where, unsupported_unit, unit_checks, operation_checks, conflict_checks, form_checks, command_checks, checks, first_or, served, sense_data, answered, answered_by, reserve_out}
+use Rattle.pr_model.specs.Commands.{Answer, answer, good, checking, is_elsewhere, is_served, serves, invalid_operation, conflict_where, attention_check, refused_where, unsupported_unit, operation_checks, conflict_checks, form_checks, command_checks, first_or, served, sense_data, answered, answered_by, reserve_out}
 use Rattle.pr_table.specs.declared.request.OutRequest.{OutRequest}
 use Rattle.pr_table.specs.Told.{requested}
 use Rattle.pr_core.specs.declared.answers.CommandOut.{CommandOut}
@@ -26,7 +33,7 @@ use Rattle.pr_core.specs.declared.admitted.Admitted.TheVariants as admitted
 use Rattle.pr_core.specs.declared.state.State.{State}
 use Rattle.pr_core.specs.States.{Depicts, Enters, owner_at}
 use Rattle.pr_core.specs.Outs.{out_of}
-use Rattle.pr_core.specs.Passing.{Pass, PassesOperation, PassesForm, PassesCommand, Carries}
+use Rattle.pr_core.specs.Passing.{Pass, PassesOperation, PassesForm, PassesCommand, IsServed}
 use Rattle.pr_core.specs.Admits.{PassesAttention, Admits, Serves, Senses, Reserves}
 use Rattle.pr_core.proofs.Checking.{passed, given}
 
@@ -38,15 +45,65 @@ err_is (Err e) c is = ap Err is.1
 -- what a command is answered, where the checks of the unit pass
 past_unit : (w : World) (n : Nexus) (lun op : ℕ) (cdb : List ℕ) (command : Command) (sent : List ℕ) → is_elsewhere lun op ≡ false → attention_check w n op (w.attentions n) ≡ None
     → answered_by w n lun op cdb command sent
-    ≡ first_or (operation_checks w op ++ form_checks w op cdb ++ command_checks w command sent) (served w n lun command sent)
+    ≡ first_or (operation_checks w op ++ conflict_checks w n op ++ form_checks w op cdb ++ command_checks w command sent) (served w n lun command sent)
 past_unit w n lun op cdb command sent here quiet = rw (here, quiet) refl
+
+-- what passes the check of the operation code is served yet, and no reservation forbids it
+served_yet : (w : World) (op : ℕ) → Pass (operation_checks w op) → is_served op ≡ true
+served_yet w op pass = by (is_served op) (pass (answer w (good [])))
+  where
+    by : (b : Bool) → first_or (refused_where (not b) w invalid_operation ∷ []) (answer w (good [])) ≡ answer w (good []) → b ≡ true
+    by true is = refl
+    by false is = let clash : checking invalid_operation ≡ good [] = ap (λ (a : Answer). a.out) is in absurd cc
+
+served_free : (o : Option OperationCode) → serves o ≡ true → class_in o ≡ Free
+served_free (Some operations.TestUnitReady) e = refl
+served_free (Some operations.RequestSense) e = refl
+served_free (Some operations.ReserveIn) e = refl
+served_free (Some operations.ReserveOut) e = refl
+served_free _ e = absurd (false≢true e)
+
+served_command : (o : Option OperationCode) (cdb : List ℕ) → serves o ≡ true → IsServed (command_in o cdb)
+served_command (Some operations.TestUnitReady) cdb e = tt
+served_command (Some operations.RequestSense) cdb e = tt
+served_command (Some operations.ReserveIn) cdb e = tt
+served_command (Some operations.ReserveOut) cdb e = tt
+served_command _ cdb e = absurd (false≢true e)
+
+free_passes : (k : Option Kind) (r : Role) → conflicts_in k r Free ≡ false
+free_passes None r = refl
+free_passes (Some kind) Holder = refl
+free_passes (Some WriteExclusive) Registered = refl
+free_passes (Some ExclusiveAccess) Registered = refl
+free_passes (Some WriteRegistrants) Registered = refl
+free_passes (Some ExclusiveRegistrants) Registered = refl
+free_passes (Some WriteAll) Registered = refl
+free_passes (Some ExclusiveAll) Registered = refl
+free_passes (Some WriteExclusive) Stranger = refl
+free_passes (Some ExclusiveAccess) Stranger = refl
+free_passes (Some WriteRegistrants) Stranger = refl
+free_passes (Some ExclusiveRegistrants) Stranger = refl
+free_passes (Some WriteAll) Stranger = refl
+free_passes (Some ExclusiveAll) Stranger = refl
+
+never_conflicts : (w : World) (n : Nexus) (op : ℕ) → Pass (operation_checks w op) → Pass (conflict_checks w n op)
+never_conflicts w n op pass last =
+    ap (λ (b : Bool). first_or (conflict_where b w ∷ []) last)
+    (ap (λ (c : Class). conflicts_in (kind_of w.standing.reservation) (role_of w.standing n) c) (served_free (operation_at op) (served_yet w op pass)) ∙ free_passes (kind_of w.standing.reservation) (role_of w.standing n))
+
+past_operation : (w : World) (n : Nexus) (lun op : ℕ) (cdb : List ℕ) (command : Command) (sent : List ℕ) → Pass (operation_checks w op)
+    → first_or (operation_checks w op ++ conflict_checks w n op ++ form_checks w op cdb ++ command_checks w command sent) (served w n lun command sent)
+    ≡ first_or (form_checks w op cdb ++ command_checks w command sent) (served w n lun command sent)
+past_operation w n lun op cdb command sent yet =
+    passed (operation_checks w op) (conflict_checks w n op ++ form_checks w op cdb ++ command_checks w command sent) (served w n lun command sent) yet
+    ∙ passed (conflict_checks w n op) (form_checks w op cdb ++ command_checks w command sent) (served w n lun command sent) (never_conflicts w n op yet)
 
 -- and those of the operation code and of the form
 past_form : (w : World) (n : Nexus) (lun op : ℕ) (cdb : List ℕ) (command : Command) (sent : List ℕ) → Pass (operation_checks w op) → Pass (form_checks w op cdb)
-    → first_or (operation_checks w op ++ form_checks w op cdb ++ command_checks w command sent) (served w n lun command sent)
+    → first_or (operation_checks w op ++ conflict_checks w n op ++ form_checks w op cdb ++ command_checks w command sent) (served w n lun command sent)
     ≡ first_or (command_checks w command sent) (served w n lun command sent)
-past_form w n lun op cdb command sent served_yet formed =
-    passed (operation_checks w op) (form_checks w op cdb ++ command_checks w command sent) (served w n lun command sent) served_yet
+past_form w n lun op cdb command sent yet formed =
+    past_operation w n lun op cdb command sent yet
     ∙ passed (form_checks w op cdb) (command_checks w command sent) (served w n lun command sent) formed
 
 pub admits_elsewhere : (s : State) (n : Nexus) (lun : ℕ) (cdb sent : List ℕ) → is_elsewhere lun (operation_code cdb) ≡ true → Admits s s n lun cdb sent (Err unsupported_unit)
@@ -74,7 +131,7 @@ admits_operation old new n lun cdb sent c reaches bad =
         w,
         p.0,
         past_unit w n lun op cdb command sent reaches.here p.1
-            ∙ given (operation_checks w op) (form_checks w op cdb ++ command_checks w command sent) (answer w (checking c)) (served w n lun command sent) (refuses.1 w),
+            ∙ given (operation_checks w op) (conflict_checks w n op ++ form_checks w op cdb ++ command_checks w command sent) (answer w (checking c)) (served w n lun command sent) (refuses.1 w),
       ),
     )
 
@@ -89,7 +146,7 @@ admits_form old new n lun cdb sent o c reaches yet bad =
         w,
         p.0,
         past_unit w n lun op cdb command sent reaches.here p.1
-            ∙ passed (operation_checks w op) (form_checks w op cdb ++ command_checks w command sent) (served w n lun command sent) (yet.1 op w refl)
+            ∙ past_operation w n lun op cdb command sent (yet.1 op w refl)
             ∙ given (form_checks w op cdb) (command_checks w command sent) (answer w (checking c)) (served w n lun command sent) (bad.1 w),
       ),
     )
@@ -123,7 +180,7 @@ admits_command old new n lun cdb sent o command (Err c) reaches yet formed bad =
         p.0,
         past_unit w n lun op cdb (command_of op cdb) sent reaches.here p.1
             ∙ past_form w n lun op cdb (command_of op cdb) sent (yet.1 op w refl) (formed.1 w)
-            ∙ own.1 w n lun,
+            ∙ own.1 w n lun (served_command (operation_at op) cdb (served_yet w op (yet.1 op w refl))),
       ),
     )
 
@@ -143,7 +200,7 @@ serves_reserve old new n lun request list result buf reserves w command sent dep
       s.0,
       s.1,
       ap (λ (k : Command). served w n lun k sent) carries.1
-          ∙ ap (λ (l : OutList). reserve_out w n (acted LIMIT w.standing n (requested request l))) (sym carries.2) ∙ s.2 buf,
+          ∙ ap (λ (l : OutList). reserve_out w n (out_service_code request.service) (acted LIMIT w.standing n (requested request l))) (sym carries.2) ∙ s.2 buf,
     )
 
 pub enters_ok : (old mid new : State) (who : ℕ) (n : Nexus) (lun : ℕ) (cdb sent : List ℕ) (a : Admitted) (result : CommandOut) (buf : List ℕ) → owner_at old n ≡ Some who → Admits old mid n lun cdb sent (Ok a) → Serves mid new n lun a result buf

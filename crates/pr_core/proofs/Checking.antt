@@ -66,7 +66,7 @@ pub list_fails : (action scope kind len : ℕ) (sent : List ℕ) (service : OutS
     → PassesCommand (ReserveOut action scope kind len) sent (Err invalid_list)
 list_fails action scope kind len sent service list r bad is fails = (
   lit< tt,
-  λ w n lun.
+  λ w n lun yet.
       past_length action scope kind len sent service list w (served w n lun (ReserveOut action scope kind len) sent) r
       ∙ ap (λ (b : Bool). first_or (refused_where b w invalid_list ∷ refused_where list.aptpl w invalid_list ∷ []) (served w n lun (ReserveOut action scope kind len) sent)) is
       ∙ by w n lun bad fails,

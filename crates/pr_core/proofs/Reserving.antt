@@ -1,7 +1,6 @@
 -- A PERSISTENT RESERVE OUT moves the worlds.
-use Rattle.std.proofs.Common.{◌≡◌, ℕ, ◌==◌, not, Bool, true, false, cond, List, [], ◌∷◌, length, Option, Some, None, is_some, option_map, Ok, Err, inl, inr, ◌&&◌, refl, sym, ap, ◌∙◌, subst}
+use Rattle.std.proofs.Common.{◌≡◌, ℕ, ◌==◌, not, Bool, true, false, cond, List, [], ◌∷◌, Option, Some, None, is_some, option_map, inl, inr, ◌&&◌, refl, sym, ap, ◌∙◌, subst}
 use std.Path.{fun_ext}
-use Rattle.std.proofs.lemmas.Bool.{false≢true}
 use Rattle.pr_words.specs.declared.nexus.Nexus.{Nexus}
 use Rattle.pr_words.specs.declared.nexus.Pair.{Pair}
 use Rattle.pr_words.specs.declared.code.Code.{Code}
@@ -12,7 +11,8 @@ use Rattle.pr_grammar.specs.declared.param.OutList.{OutList}
 use Rattle.pr_model.specs.Limits.{LIMIT}
 use Rattle.pr_model.specs.Acts.{Acted, Verdict as Verdicts, Good, Conflict, Bad, ReserveOut, acted}
 use Rattle.pr_model.specs.Attentions.{with_code, raised_any, is_other, told}
-use Rattle.pr_model.specs.Worlds.{World}
+use Rattle.pr_model.specs.Worlds.{World, Task}
+use Rattle.pr_model.specs.Tasks.{aborted, marked}
 use Rattle.pr_model.specs.Entries.{Out}
 use Rattle.pr_model.specs.Commands.{answer, good, conflict, checking, by_verdict, reserve_out}
 use Rattle.pr_model.proofs.Orders.{same_is}
@@ -114,17 +114,25 @@ attentions_told f g n a tells m = by (f m) refl
         ∙ ap (λ (o : Option Seat). raised_where (is_other n a.standing.pairs m) a.stay_code (raised_where (is_other n a.removed m) a.removed_code (attentions_in o))) e)
 
 -- the world after an act that is accepted
-abbrev next : World → Nexus → Acted → World
-next w n a = record w { standing = a.standing; attentions = told n a w.attentions }
+abbrev next : World → Nexus → ℕ → Acted → World
+next w n action a = record w { standing = a.standing; attentions = told n a w.attentions; task = marked action a.removed w.task }
 
-accepted : (w : World) (n : Nexus) (a : Acted) → a.verdict ≡ Good → reserve_out w n a ≡ answer (next w n a) (good [])
-accepted w n a is = ap (λ (v : Verdicts). by_verdict w (next w n a) v) is
+accepted : (w : World) (n : Nexus) (action : ℕ) (a : Acted) → a.verdict ≡ Good → reserve_out w n action a ≡ answer (next w n action a) (good [])
+accepted w n action a is = ap (λ (v : Verdicts). by_verdict w (next w n action a) v) is
 
-conflicting : (w : World) (n : Nexus) (a : Acted) → a.verdict ≡ Conflict → reserve_out w n a ≡ answer w conflict
-conflicting w n a is = ap (λ (v : Verdicts). by_verdict w (next w n a) v) is
+conflicting : (w : World) (n : Nexus) (action : ℕ) (a : Acted) → a.verdict ≡ Conflict → reserve_out w n action a ≡ answer w conflict
+conflicting w n action a is = ap (λ (v : Verdicts). by_verdict w (next w n action a) v) is
 
-refused : (w : World) (n : Nexus) (a : Acted) (c : Code) → a.verdict ≡ Bad c → reserve_out w n a ≡ answer w (checking c)
-refused w n a c is = ap (λ (v : Verdicts). by_verdict w (next w n a) v) is
+refused : (w : World) (n : Nexus) (action : ℕ) (a : Acted) (c : Code) → a.verdict ≡ Bad c → reserve_out w n action a ≡ answer w (checking c)
+refused w n action a c is = ap (λ (v : Verdicts). by_verdict w (next w n action a) v) is
+
+-- where no task runs, none is marked
+none_marked : (action : ℕ) (removed : List Pair) → marked action removed (λ _. None) ≡ (λ _. None)
+none_marked action removed = fun_ext (λ m. by (action == 5 && is_registered removed m))
+  where
+    by : (b : Bool) → cond b (option_map aborted None) None ≡ None
+    by true = refl
+    by false = refl
 
 standing_in : (s : State) (w : World) → Depicts s w → w.standing ≡ standing_of s.table
 standing_in s w depicts = ap (λ (x : World). x.standing) depicts.world
@@ -140,14 +148,14 @@ same_depicts old new w standing seats depicts =
 
 pub reserves_conflict : (old new : State) (n : Nexus) (o : ReserveOut) (result : CommandOut) → standing_of new.table ≡ standing_of old.table → new.seats ≡ old.seats → (acted LIMIT (standing_of old.table) n o).verdict ≡ Conflict → result ≡ outs.Ended status.ReservationConflict None 0 → Reserves old new n o result
 reserves_conflict old new n o result standing seats is told w depicts =
-    (w, same_depicts old new w standing seats depicts, λ buf. ap (λ (s : Standing). reserve_out w n (acted LIMIT s n o)) (standing_in old w depicts) ∙ conflicting w n (acted LIMIT (standing_of old.table) n o) is ∙ ap (λ (r : CommandOut). answer w (out_of r buf)) (sym told))
+    (w, same_depicts old new w standing seats depicts, λ buf. ap (λ (s : Standing). reserve_out w n o.action (acted LIMIT s n o)) (standing_in old w depicts) ∙ conflicting w n o.action (acted LIMIT (standing_of old.table) n o) is ∙ ap (λ (r : CommandOut). answer w (out_of r buf)) (sym told))
 
 pub reserves_bad : (old new : State) (n : Nexus) (o : ReserveOut) (c : Code) (result : CommandOut) → standing_of new.table ≡ standing_of old.table → new.seats ≡ old.seats → (acted LIMIT (standing_of old.table) n o).verdict ≡ Bad c → ((buf : List ℕ) → out_of result buf ≡ checking c) → Reserves old new n o result
 reserves_bad old new n o c result standing seats is out w depicts = (
   w,
   same_depicts old new w standing seats depicts,
   λ buf.
-      ap (λ (s : Standing). reserve_out w n (acted LIMIT s n o)) (standing_in old w depicts) ∙ refused w n (acted LIMIT (standing_of old.table) n o) c is ∙ ap (λ (x : Out). answer w x) (sym (out buf)),
+      ap (λ (s : Standing). reserve_out w n o.action (acted LIMIT s n o)) (standing_in old w depicts) ∙ refused w n o.action (acted LIMIT (standing_of old.table) n o) c is ∙ ap (λ (x : Out). answer w x) (sym (out buf)),
 )
 
 tells_lists : (old new : State) (n : Nexus) (a : Acted) (k : List Nexus) → Tells (seat_of old.seats) (seat_of new.seats) n a → count_of new.seats ≡ count_of old.seats → Lists k old.seats → Lists k new.seats
@@ -159,18 +167,19 @@ reserves_good old new n o result standing tells count is told_it w depicts =
     let a : Acted = acted LIMIT (standing_of old.table) n o in
     let f : Nexus → Option Seat = seat_of old.seats in
     let g : Nexus → Option Seat = seat_of new.seats in (
-      next w n a,
+      next w n o.action a,
       record {
         medium = depicts.medium;
         known = depicts.known;
         lists = tells_lists old new n a depicts.known tells count depicts.lists;
         world =
-            ap (λ (x : World). next x n a) depicts.world
+            ap (λ (x : World). next x n o.action a) depicts.world
+            ∙ ap (λ (t : Nexus → Option Task). record (world_with depicts.medium a.standing f depicts.known) { attentions = told n a (λ k. attentions_in (f k)); task = t }) (none_marked o.action a.removed)
             ∙ ap (λ (s : Standing). record (world_with depicts.medium s f depicts.known) { attentions = told n a (λ k. attentions_in (f k)) }) (sym standing)
             ∙ ap (λ (l : Nexus → List Code). record (world_with depicts.medium (standing_of new.table) f depicts.known) { attentions = l }) (fun_ext (λ m. sym (attentions_told f g n a tells m)))
             ∙ ap (λ (l : Nexus → Option ℕ). record (world_with depicts.medium (standing_of new.table) g depicts.known) { owner = l }) (fun_ext (λ m. sym (tells_owner f g n a tells m)));
       },
-      λ buf. ap (λ (s : Standing). reserve_out w n (acted LIMIT s n o)) (standing_in old w depicts) ∙ accepted w n a is ∙ ap (λ (r : CommandOut). answer (next w n a) (out_of r buf)) (sym told_it),
+      λ buf. ap (λ (s : Standing). reserve_out w n o.action (acted LIMIT s n o)) (standing_in old w depicts) ∙ accepted w n o.action a is ∙ ap (λ (r : CommandOut). answer (next w n o.action a) (out_of r buf)) (sym told_it),
     )
 
 -- what the table did, at the target's limit

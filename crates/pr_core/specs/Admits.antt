@@ -1,5 +1,5 @@
 -- What the checks of a command decide, and what an admitted command does, for the worlds of a state.
-use Rattle.std.specs.Prelude.{◌≡◌, ℕ, ◌<◌, Bool, List, take, Option, Some, None, Result, Ok, Err}
+use Rattle.std.specs.Prelude.{◌≡◌, ℕ, ◌<◌, Bool, List, take, Some, None, Result, Ok, Err}
 use Rattle.pr_words.specs.declared.nexus.Nexus.{Nexus}
 use Rattle.pr_words.specs.declared.code.Code.{Code}
 use Rattle.pr_grammar.specs.declared.cdb.Command.{Command}
@@ -50,4 +50,4 @@ Senses old new n lun c =
 abbrev pub Reserves : State → State → Nexus → ReserveOut → CommandOut → Type 0
 Reserves old new n o result =
     (w : World) → Depicts old w
-    → (v : World) × Depicts new v × ((buf : List ℕ) → reserve_out w n (acted LIMIT w.standing n o) ≡ answer v (out_of result buf))
+    → (v : World) × Depicts new v × ((buf : List ℕ) → reserve_out w n o.action (acted LIMIT w.standing n o) ≡ answer v (out_of result buf))

@@ -46,9 +46,17 @@ Carries command sent (admitted.ReserveIn service allocation) = command ≡ Reser
 Carries command sent (admitted.ReserveOut request list) =
     (length : ℕ) × (command ≡ ReserveOut (out_service_code request.service) request.scope request.kind length) × (list ≡ list_of sent)
 
--- a command passes its own checks, or is refused by them or because it isn't served yet
+-- those that are served yet
+abbrev pub IsServed : Command → Type 0
+IsServed TestUnitReady = Unit {0}
+IsServed (RequestSense descriptor allocation) = Unit {0}
+IsServed (ReserveIn action allocation) = Unit {0}
+IsServed (ReserveOut action scope kind list) = Unit {0}
+IsServed _ = ⊥
+
+-- a command that is served yet passes its own checks, or is refused by them
 abbrev pub PassesCommand : Command → List ℕ → Result Admitted Code → Type 0
 PassesCommand command sent (Ok a) = Carries command sent a × ((w : World) → Pass (command_checks w command sent))
 PassesCommand command sent (Err c) =
     (c.key < 16)
-    × ((w : World) (n : Nexus) (lun : ℕ) → first_or (command_checks w command sent) (served w n lun command sent) ≡ answer w (checking c))
+    × ((w : World) (n : Nexus) (lun : ℕ) → IsServed command → first_or (command_checks w command sent) (served w n lun command sent) ≡ answer w (checking c))

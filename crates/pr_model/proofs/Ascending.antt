@@ -8,10 +8,10 @@ use Rattle.pr_words.specs.Orders.{comes_before}
 use Rattle.pr_model.specs.Registrants.{with_pair, but_those, IsAscending, is_earlier, is_later}
 use Rattle.pr_model.proofs.Orders.{before_through}
 
-tail_up : (x : Pair) (xs : List Pair) → IsAscending (x ∷ xs) → IsAscending xs
+pub tail_up : (x : Pair) (xs : List Pair) → IsAscending (x ∷ xs) → IsAscending xs
 tail_up x xs up i j d lt le = up (suc i) (suc j) d (omega arith) (omega arith)
 
-head_up : (x : Pair) (xs : List Pair) → IsAscending (x ∷ xs) → All (λ p. comes_before x.nexus p.nexus ≡ true) xs
+pub head_up : (x : Pair) (xs : List Pair) → IsAscending (x ∷ xs) → All (λ p. comes_before x.nexus p.nexus ≡ true) xs
 head_up x xs up k d lt = up zero (suc k) d (omega arith) (omega arith)
 
 joined_up : (q : Pair) (xs ys : List Pair) → All (λ p. is_earlier q.nexus p ≡ true) xs → IsAscending xs → All (λ p. is_later q.nexus p ≡ true) ys → IsAscending ys → IsAscending (xs ++ q ∷ ys)

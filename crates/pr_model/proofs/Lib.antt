@@ -18,5 +18,11 @@ pub mod WellFormed
 pub mod SameKept
 pub mod Refusals
 pub mod Reaching
+pub mod Checked
+pub mod Removed
+pub mod Came
+pub mod Moved
+pub mod Walk
 pub mod Refused
 pub mod Sizes
+pub mod Computed

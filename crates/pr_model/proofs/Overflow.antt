@@ -10,8 +10,8 @@ use Rattle.pr_words.specs.Fields.{number32_at}
 use Rattle.pr_grammar.proofs.Fronts.{grown, front_more, full_front}
 use Rattle.pr_grammar.proofs.Spellings.{found}
 use Rattle.pr_model.specs.Limits.{HELD}
-use Rattle.pr_model.specs.Entries.{Out, Login_code, Ended, Started, Wrote, Read, Done, Aborted, Fault, Left, Restored, Login, Command, Logout, History}
-use Rattle.pr_model.specs.Lanes.{Phase, Fresh, In, Dead, Lane, lane, dead, Turned, turned, Turn, Idle, Silent, Asks, turn, turn_at, arrived, after_login, after_command, after_logout, place_after, rejected, replied}
+use Rattle.pr_model.specs.Entries.{Out, Login_code, Ended, Started, Wrote, Read, Done, Aborted, Fault, Left, Restored, Login, Command, Step, Logout, History}
+use Rattle.pr_model.specs.Lanes.{Job, Phase, Fresh, In, Busy, Dead, AwaitsFrame, Lane, lane, dead, Turned, turned, Turn, Idle, Silent, Asks, turn, turn_at, turn_by, carried, after_step, arrived, after_login, after_command, after_logout, place_after, rejected, replied}
 use Rattle.pr_model.specs.Runs.{Deed, joined, nothing, Makes, TakesTurn, TakesTurns}
 use Rattle.pr_model.proofs.RunLaws.{joined-nothing, joined-assoc}
 
@@ -22,6 +22,7 @@ arrived-append l xs ys = by_phase l.phase l.bytes l.place xs ys
     by_phase Dead bytes place xs ys = refl
     by_phase Fresh bytes place xs ys = ap (λ (b : List ℕ). lane b Fresh place) (append_assoc bytes xs ys)
     by_phase (In n) bytes place xs ys = ap (λ (b : List ℕ). lane b (In n) place) (append_assoc bytes xs ys)
+    by_phase (Busy n j) bytes place xs ys = ap (λ (b : List ℕ). lane b (Busy n j) place) (append_assoc bytes xs ys)
 
 pub arrived-nil : (l : Lane) → arrived l [] ≡ l
 arrived-nil l = by_phase l.phase l.bytes l.place
@@ -30,6 +31,7 @@ arrived-nil l = by_phase l.phase l.bytes l.place
     by_phase Dead bytes place = refl
     by_phase Fresh bytes place = ap (λ (b : List ℕ). lane b Fresh place) (append-nil bytes)
     by_phase (In n) bytes place = ap (λ (b : List ℕ). lane b (In n) place) (append-nil bytes)
+    by_phase (Busy n j) bytes place = ap (λ (b : List ℕ). lane b (Busy n j) place) (append-nil bytes)
 
 -- a turn with more bytes behind it
 abbrev pub grown_turned : Turned → List ℕ → Turned
@@ -48,7 +50,7 @@ login_more f rest ys place c false = refl
 after_login_more : (f : Frame) (rest ys : List ℕ) (place : ℕ) (out : Out) → after_login f (rest ++ ys) place out ≡ grown_turned (after_login f rest place out) ys
 after_login_more f rest ys place (Login_code c) = login_more f rest ys place c (eqb c 0)
 after_login_more f rest ys place (Ended s e d) = refl
-after_login_more f rest ys place Started = refl
+after_login_more f rest ys place (Started way) = refl
 after_login_more f rest ys place Wrote = refl
 after_login_more f rest ys place (Read b) = refl
 after_login_more f rest ys place Done = refl
@@ -60,7 +62,7 @@ after_login_more f rest ys place (Restored v) = refl
 after_command_more : (n : Nexus) (f : Frame) (rest ys : List ℕ) (place : ℕ) (out : Out) → after_command n f (rest ++ ys) place out ≡ grown_turned (after_command n f rest place out) ys
 after_command_more n f rest ys place (Ended s e d) = refl
 after_command_more n f rest ys place (Login_code c) = refl
-after_command_more n f rest ys place Started = refl
+after_command_more n f rest ys place (Started way) = refl
 after_command_more n f rest ys place Wrote = refl
 after_command_more n f rest ys place (Read b) = refl
 after_command_more n f rest ys place Done = refl
@@ -68,6 +70,18 @@ after_command_more n f rest ys place Aborted = refl
 after_command_more n f rest ys place (Fault c) = refl
 after_command_more n f rest ys place Left = refl
 after_command_more n f rest ys place (Restored v) = refl
+
+after_step_more : (n : Nexus) (j : Job) (rest ys : List ℕ) (place : ℕ) (out : Out) → after_step n j (rest ++ ys) place out ≡ grown_turned (after_step n j rest place out) ys
+after_step_more n j rest ys place Wrote = refl
+after_step_more n j rest ys place (Read b) = refl
+after_step_more n j rest ys place Done = refl
+after_step_more n j rest ys place Aborted = refl
+after_step_more n j rest ys place (Fault c) = refl
+after_step_more n j rest ys place (Login_code c) = refl
+after_step_more n j rest ys place (Ended s e d) = refl
+after_step_more n j rest ys place (Started way) = refl
+after_step_more n j rest ys place Left = refl
+after_step_more n j rest ys place (Restored v) = refl
 
 fresh_more : (b : Bool) (f : Frame) (rest ys : List ℕ) (place : ℕ)
     → cond b (Asks (login_nexus f.body) (Login (login_version f.body)) (after_login f (rest ++ ys) (place_after place f))) (Silent (rejected 5 place))
@@ -85,6 +99,8 @@ in_more false false n f rest ys place = refl
 turn_at_more : (p : Phase) (place : ℕ) (f : Front) (ys : List ℕ) → turn_at p place (grown f ys) ≡ grown_turn (turn_at p place f) ys
 turn_at_more p place (Lacking k) ys = refl
 turn_at_more Dead place (Broken r) ys = refl
+turn_at_more (Busy n j) place (Broken r) ys = refl
+turn_at_more (Busy n j) place (Whole f rest) ys = refl
 turn_at_more Fresh place (Broken r) ys = refl
 turn_at_more (In n) place (Broken r) ys = refl
 turn_at_more Dead place (Whole f rest) ys = refl
@@ -100,6 +116,7 @@ turn_more_at : (p : Phase) (bytes ys : List ℕ) (place : ℕ) → HELD ≤ leng
 turn_more_at Dead bytes ys place full = dead_turn place (front Target bytes) ∙ sym (ap (λ (t : Turn). grown_turn t ys) (dead_turn place (front Target bytes)))
 turn_more_at Fresh bytes ys place full = ap (turn_at Fresh place) (front_more Target bytes ys full) ∙ turn_at_more Fresh place (front Target bytes) ys
 turn_more_at (In n) bytes ys place full = ap (turn_at (In n) place) (front_more Target bytes ys full) ∙ turn_at_more (In n) place (front Target bytes) ys
+turn_more_at (Busy n j) bytes ys place full = ap (Asks n (Step (carried j))) (fun_ext (after_step_more n j bytes ys place))
 
 pub turn_more : (l : Lane) (ys : List ℕ) → HELD ≤ length l.bytes → turn (arrived l ys) ≡ grown_turn (turn l) ys
 turn_more l ys full = turn_more_at l.phase l.bytes ys l.place full
@@ -124,7 +141,7 @@ turns-append (suc k) who l mid last d e done more takes =
     let rest = turns-append k who done.1.1 mid last done.1.2 e done.1.4 more takes in
     (done.0, (done.1.0, done.1.1, joined done.1.2 e, done.1.3, rest, ap (λ (x : Deed). joined x e) done.1.5 ∙ joined-assoc done.1.0 done.1.2 e))
 
--- a turn of a full lane that lives makes room, or the lane dies
+-- a turn of a full lane that looks at its frame makes room, or the lane dies
 pub data MadeRoom : Lane → Type 0 where
   Has_died : (l : Lane) → l.phase ≡ Dead → MadeRoom l
   Has_room : (l : Lane) → length l.bytes < HELD → MadeRoom l
@@ -132,7 +149,7 @@ pub data MadeRoom : Lane → Type 0 where
 login_room : (f : Frame) (rest : List ℕ) (place : ℕ) (out : Out) → length rest < HELD → MadeRoom (after_login f rest place out).lane
 login_room f rest place (Login_code c) less = Has_room _ less
 login_room f rest place (Ended s e d) less = Has_died _ refl
-login_room f rest place Started less = Has_died _ refl
+login_room f rest place (Started way) less = Has_died _ refl
 login_room f rest place Wrote less = Has_died _ refl
 login_room f rest place (Read b) less = Has_died _ refl
 login_room f rest place Done less = Has_died _ refl
@@ -144,7 +161,7 @@ login_room f rest place (Restored v) less = Has_died _ refl
 command_room : (n : Nexus) (f : Frame) (rest : List ℕ) (place : ℕ) (out : Out) → length rest < HELD → MadeRoom (after_command n f rest place out).lane
 command_room n f rest place (Ended s e d) less = Has_room _ less
 command_room n f rest place (Login_code c) less = Has_died _ refl
-command_room n f rest place Started less = Has_died _ refl
+command_room n f rest place (Started way) less = Has_room _ less
 command_room n f rest place Wrote less = Has_died _ refl
 command_room n f rest place (Read b) less = Has_died _ refl
 command_room n f rest place Done less = Has_died _ refl
@@ -175,14 +192,21 @@ short_rest bytes f rest is full =
     let here = found Target bytes f rest is in
     omega (arith, ap length here.left, length-drop (4 + number32_at bytes 0) bytes, here.whole)
 
-room_at : (who : ℕ) (l m : Lane) (p : Phase) (bytes reply : List ℕ) (place : ℕ) (f : Front) (es : History) → f ≡ front Target bytes → length bytes ≡ HELD → (p ≡ Dead → ⊥)
+frame_room : (who : ℕ) (l m : Lane) (p : Phase) (bytes reply : List ℕ) (place : ℕ) (f : Front) (es : History) → f ≡ front Target bytes → length bytes ≡ HELD → AwaitsFrame p
     → Makes who l (turn_at p place f) es reply m → MadeRoom m
-room_at who l m p bytes reply place (Lacking k) es is full alive makes = absurd (full_front Target bytes (omega (arith, full)) k (sym is))
-room_at who l m Dead bytes reply place f es is full alive makes = absurd (alive refl)
-room_at who l m Fresh bytes reply place (Broken r) es is full alive makes = died m makes.2
-room_at who l m (In n) bytes reply place (Broken r) es is full alive makes = died m makes.3
-room_at who l m Fresh bytes reply place (Whole f rest) es is full alive makes = fresh_room who l m (eqb f.kind 1) f rest reply es place (short_rest bytes f rest (sym is) (omega (arith, full))) makes
-room_at who l m (In n) bytes reply place (Whole f rest) es is full alive makes = in_room who l m (eqb f.kind 2) (eqb f.kind 3) n f rest reply es place (short_rest bytes f rest (sym is) (omega (arith, full))) makes
+frame_room who l m p bytes reply place (Lacking k) es is full awaits makes = absurd (full_front Target bytes (omega (arith, full)) k (sym is))
+frame_room who l m Dead bytes reply place f es is full awaits makes = absurd awaits
+frame_room who l m (Busy n j) bytes reply place f es is full awaits makes = absurd awaits
+frame_room who l m Fresh bytes reply place (Broken r) es is full awaits makes = died m makes.2
+frame_room who l m (In n) bytes reply place (Broken r) es is full awaits makes = died m makes.3
+frame_room who l m Fresh bytes reply place (Whole f rest) es is full awaits makes = fresh_room who l m (eqb f.kind 1) f rest reply es place (short_rest bytes f rest (sym is) (omega (arith, full))) makes
+frame_room who l m (In n) bytes reply place (Whole f rest) es is full awaits makes = in_room who l m (eqb f.kind 2) (eqb f.kind 3) n f rest reply es place (short_rest bytes f rest (sym is) (omega (arith, full))) makes
 
-pub room_made : (who : ℕ) (l m : Lane) (es : History) (reply : List ℕ) → length l.bytes ≡ HELD → (l.phase ≡ Dead → ⊥) → Makes who l (turn l) es reply m → MadeRoom m
-room_made who l m es reply full alive makes = room_at who l m l.phase l.bytes reply l.place (front Target l.bytes) es refl full alive makes
+room_at : (who : ℕ) (l m : Lane) (p : Phase) (bytes reply : List ℕ) (place : ℕ) (es : History) → length bytes ≡ HELD → AwaitsFrame p → Makes who l (turn_by p bytes place) es reply m → MadeRoom m
+room_at who l m Dead bytes reply place es full awaits makes = absurd awaits
+room_at who l m (Busy n j) bytes reply place es full awaits makes = absurd awaits
+room_at who l m Fresh bytes reply place es full awaits makes = frame_room who l m Fresh bytes reply place (front Target bytes) es refl full awaits makes
+room_at who l m (In n) bytes reply place es full awaits makes = frame_room who l m (In n) bytes reply place (front Target bytes) es refl full awaits makes
+
+pub room_made : (who : ℕ) (l m : Lane) (es : History) (reply : List ℕ) → length l.bytes ≡ HELD → AwaitsFrame l.phase → Makes who l (turn l) es reply m → MadeRoom m
+room_made who l m es reply full awaits makes = room_at who l m l.phase l.bytes reply l.place es full awaits makes

@@ -1,8 +1,10 @@
 -- What a command is answered, and the world that it leaves (SPC-4).
-use Rattle.std.specs.Prelude.{ℕ, ◌-◌, ◌==◌, ◌&&◌, ◌||◌, nat_lt, not, Bool, true, false, List, [], ◌∷◌, ◌++◌, length, take, Option, Some, None, is_some, if◌then◌else◌}
+use Rattle.std.specs.Prelude.{ℕ, ◌+◌, ◌*◌, ◌-◌, ◌==◌, ◌&&◌, ◌||◌, nat_lt, not, Bool, true, false, List, [], ◌∷◌, ◌++◌, length, take, Option, Some, None, is_some, if◌then◌else◌}
 use Rattle.pr_words.specs.declared.nexus.Nexus.{Nexus}
 use Rattle.pr_words.specs.declared.code.Code.{Code}
 use Rattle.pr_words.specs.declared.code.Status.TheVariants as status
+use Rattle.pr_words.specs.declared.task.Way.{Way}
+use Rattle.pr_words.specs.declared.task.Way.TheVariants as ways
 use Rattle.pr_words.specs.Kinds.{kind_at}
 use Rattle.pr_words.specs.Services.{in_service_at, out_service_at}
 use Rattle.pr_grammar.specs.Standings.{Standing}
@@ -11,17 +13,20 @@ use Rattle.pr_grammar.specs.declared.cdb.Command.{Command}
 use Rattle.pr_grammar.specs.declared.cdb.Command.TheVariants.{TestUnitReady, RequestSense, Inquiry, ReadCapacity10, ReadCapacity16, ReportLuns, Read, Write, SynchronizeCache, ReserveIn, ReserveOut}
 use Rattle.pr_grammar.specs.declared.operation.OperationCode.{OperationCode}
 use Rattle.pr_grammar.specs.declared.operation.OperationCode.TheVariants as operations
-use Rattle.pr_grammar.specs.Operations.{operation_at, length_of, is_unconditional}
+use Rattle.pr_grammar.specs.Operations.{operation_at, length_of, class_of, is_unconditional}
 use Rattle.pr_grammar.specs.Cdbs.{operation_code, is_naca, command_of}
 use Rattle.pr_grammar.specs.declared.param.OutList.{OutList}
 use Rattle.pr_grammar.specs.OutLists.{list_of}
 use Rattle.pr_grammar.specs.InReplies.{keys_reply, reservation_reply, capabilities_reply, full_reply}
-use Rattle.pr_model.specs.Limits.{LIMIT}
+use Rattle.pr_grammar.specs.Pages.{block_length, standard_inquiry, vital_page_at, capacity_10, capacity_16, report_luns}
+use Rattle.pr_model.specs.Limits.{LIMIT, TRANSFER}
 use Rattle.pr_model.specs.Acts as acts
 use Rattle.pr_model.specs.Acts.{Acted, Verdict, Good, Conflict, Bad, acted}
+use Rattle.pr_model.specs.Conflicts.{is_forbidden}
 use Rattle.pr_model.specs.Attentions.{told}
 use Rattle.pr_model.specs.Worlds.{World, set_at}
-use Rattle.pr_model.specs.Entries.{Out, Ended}
+use Rattle.pr_model.specs.Tasks.{new_task, marked}
+use Rattle.pr_model.specs.Entries.{Out, Ended, Started}
 
 -- the world after a command, and its outcome
 pub record Answer : Type 0 where
@@ -44,7 +49,7 @@ good data_in = Ended status.Good None data_in
 abbrev pub conflict : Out
 conflict = Ended status.ReservationConflict None []
 
--- LOGICAL UNIT NOT SUPPORTED, INVALID COMMAND OPERATION CODE, INVALID FIELD IN CDB, PARAMETER LIST LENGTH ERROR, INVALID FIELD IN PARAMETER LIST, and no sense
+-- LOGICAL UNIT NOT SUPPORTED, INVALID COMMAND OPERATION CODE, INVALID FIELD IN CDB, LOGICAL BLOCK ADDRESS OUT OF RANGE, PARAMETER LIST LENGTH ERROR, INVALID FIELD IN PARAMETER LIST, and no sense
 abbrev pub unsupported_unit : Code
 unsupported_unit = code 5 0x25 0
 
@@ -53,6 +58,9 @@ invalid_operation = code 5 0x20 0
 
 abbrev pub invalid_field : Code
 invalid_field = code 5 0x24 0
+
+abbrev pub out_of_range : Code
+out_of_range = code 5 0x21 0
 
 abbrev pub list_length_error : Code
 list_length_error = code 5 0x1A 0
@@ -98,9 +106,12 @@ unit_checks w n lun op = refused_where (is_elsewhere lun op) w unsupported_unit 
 abbrev pub operation_checks : World → ℕ → List (Option Answer)
 operation_checks w op = refused_where (not (is_served op)) w invalid_operation ∷ []
 
--- by the reservation: none, since no command that moves blocks is served yet
+-- by the reservation, which may forbid what the operation code does (SPC-4 and SBC-3, the tables of commands that conflict)
+abbrev pub conflict_where : Bool → World → Option Answer
+conflict_where forbidden w = if forbidden then Some (answer w conflict) else None
+
 abbrev pub conflict_checks : World → Nexus → ℕ → List (Option Answer)
-conflict_checks w n op = []
+conflict_checks w n op = conflict_where (is_forbidden w.standing n (class_of op)) w ∷ []
 
 -- by the CDB's form: its length, and NACA, which isn't supported (SPC-4, control byte)
 abbrev pub form_checks : World → ℕ → List ℕ → List (Option Answer)
@@ -122,6 +133,24 @@ has_bad_service action scope kind =
 abbrev pub has_bad_list : ℕ → OutList → Bool
 has_bad_list action l = l.spec_i_pt || (l.all_tg_pt && (action == 0 || action == 6))
 
+-- INQUIRY data: the standard data, whose page code is zero, or a vital product data page that there is; of a logical unit that is there or not
+abbrev pub inquiry_data : Bool → ℕ → Bool → Option (List ℕ)
+inquiry_data vital page here =
+    if vital then vital_page_at page here else
+    if page == 0 then Some (standard_inquiry here) else None
+
+-- not all of so many blocks lie within the medium (SBC-3; at no blocks too, which is this project's own)
+abbrev pub is_beyond : World → ℕ → ℕ → Bool
+is_beyond w lba count = nat_lt w.medium.count (lba + count)
+
+-- of READ and WRITE: protection isn't supported; so many blocks at once aren't, which is this project's own; the blocks are there
+abbrev pub transfer_checks : World → ℕ → ℕ → ℕ → List (Option Answer)
+transfer_checks w protect lba count =
+    refused_where (not (protect == 0)) w invalid_field
+    ∷ refused_where (nat_lt TRANSFER count) w invalid_field
+    ∷ refused_where (is_beyond w lba count) w out_of_range
+    ∷ []
+
 -- by the command's own fields, by its data-out's length, and by its parameter list, which has 24 bytes, since none with SPEC_I_PT is supported; APTPL isn't supported yet
 abbrev pub command_checks : World → Command → List ℕ → List (Option Answer)
 command_checks w (ReserveOut action scope kind list) sent =
@@ -135,13 +164,18 @@ command_checks w (ReserveIn action allocation) sent =
     refused_where (not (is_some (in_service_at action))) w invalid_field ∷ length_check w 0 sent ∷ []
 command_checks w TestUnitReady sent = length_check w 0 sent ∷ []
 command_checks w (RequestSense descriptor allocation) sent = length_check w 0 sent ∷ []
-command_checks w (Inquiry vital page allocation) sent = length_check w 0 sent ∷ []
+command_checks w (Inquiry vital page allocation) sent =
+    refused_where (not (is_some (inquiry_data vital page true))) w invalid_field ∷ length_check w 0 sent ∷ []
 command_checks w ReadCapacity10 sent = length_check w 0 sent ∷ []
-command_checks w (ReadCapacity16 action allocation) sent = length_check w 0 sent ∷ []
-command_checks w (ReportLuns select allocation) sent = length_check w 0 sent ∷ []
-command_checks w (Read wide protect lba count) sent = length_check w 0 sent ∷ []
-command_checks w (Write wide protect lba count) sent = length_check w 0 sent ∷ []
-command_checks w (SynchronizeCache lba count) sent = length_check w 0 sent ∷ []
+command_checks w (ReadCapacity16 action allocation) sent =
+    refused_where (not (action == 0x10)) w invalid_field ∷ length_check w 0 sent ∷ []
+command_checks w (ReportLuns select allocation) sent =
+    refused_where (not (is_some (report_luns select))) w invalid_field ∷ length_check w 0 sent ∷ []
+command_checks w (Read wide protect lba count) sent = transfer_checks w protect lba count ++ length_check w 0 sent ∷ []
+command_checks w (Write wide protect lba count) sent =
+    transfer_checks w protect lba count ++ length_check w (block_length * count) sent ∷ []
+command_checks w (SynchronizeCache lba count) sent =
+    refused_where (is_beyond w lba count) w out_of_range ∷ length_check w 0 sent ∷ []
 
 -- the order of refusals (this project's own): unit, operation code, reservation, form, command
 abbrev pub checks : World → Nexus → ℕ → ℕ → List ℕ → Command → List ℕ → List (Option Answer)
@@ -178,33 +212,45 @@ reserve_in_data action s =
     if action == 1 then reservation_reply s else
     if action == 2 then capabilities_reply s else full_reply s
 
--- PERSISTENT RESERVE OUT: only one that is accepted changes the world
+-- PERSISTENT RESERVE OUT: only one that is accepted changes the world: the registrations and the reservation, what others are told, and which tasks are marked
 abbrev pub by_verdict : World → World → Verdict → Answer
 by_verdict w next Good = answer next (good [])
 by_verdict w next Conflict = answer w conflict
 by_verdict w next (Bad c) = answer w (checking c)
 
-abbrev pub reserve_out : World → Nexus → Acted → Answer
-reserve_out w n a = by_verdict w (record w { standing = a.standing; attentions = told n a w.attentions }) a.verdict
+abbrev pub reserve_out : World → Nexus → ℕ → Acted → Answer
+reserve_out w n action a =
+    by_verdict w (record w { standing = a.standing; attentions = told n a w.attentions; task = marked action a.removed w.task }) a.verdict
 
 abbrev pub out_request : ℕ → ℕ → ℕ → OutList → acts.ReserveOut
 out_request action scope kind l =
     record { action = action; scope = scope; kind = kind; key = l.key; action_key = l.action_key; aptpl = l.aptpl }
 
--- what a command does; those that aren't served yet were refused by their operation code
+-- READ and WRITE: no blocks are moved at once, and others by a task
+abbrev pub begin : World → Nexus → Way → ℕ → ℕ → Answer
+begin w n way lba count =
+    if count == 0 then answer w (good []) else
+    answer (record w { task = set_at w.task n (Some (new_task way lba count)) }) (Started way)
+
+-- data that there is
+abbrev pub data_of : Option (List ℕ) → List ℕ
+data_of None = []
+data_of (Some bytes) = bytes
+
+-- what a command does; every block that is written is on the medium, so SYNCHRONIZE CACHE has nothing to do
 abbrev pub served : World → Nexus → ℕ → Command → List ℕ → Answer
 served w n lun TestUnitReady sent = answer w (good [])
 served w n lun (RequestSense descriptor allocation) sent = request_sense w n lun descriptor allocation
 served w n lun (ReserveIn action allocation) sent = answer w (good (take allocation (reserve_in_data action w.standing)))
 served w n lun (ReserveOut action scope kind list) sent =
-    reserve_out w n (acted LIMIT w.standing n (out_request action scope kind (list_of sent)))
-served w n lun (Inquiry vital page allocation) sent = answer w (checking invalid_operation)
-served w n lun ReadCapacity10 sent = answer w (checking invalid_operation)
-served w n lun (ReadCapacity16 action allocation) sent = answer w (checking invalid_operation)
-served w n lun (ReportLuns select allocation) sent = answer w (checking invalid_operation)
-served w n lun (Read wide protect lba count) sent = answer w (checking invalid_operation)
-served w n lun (Write wide protect lba count) sent = answer w (checking invalid_operation)
-served w n lun (SynchronizeCache lba count) sent = answer w (checking invalid_operation)
+    reserve_out w n action (acted LIMIT w.standing n (out_request action scope kind (list_of sent)))
+served w n lun (Inquiry vital page allocation) sent = answer w (good (take allocation (data_of (inquiry_data vital page (lun == 0)))))
+served w n lun ReadCapacity10 sent = answer w (good (capacity_10 w.medium.count))
+served w n lun (ReadCapacity16 action allocation) sent = answer w (good (take allocation (capacity_16 w.medium.count)))
+served w n lun (ReportLuns select allocation) sent = answer w (good (take allocation (data_of (report_luns select))))
+served w n lun (Read wide protect lba count) sent = begin w n ways.Read lba count
+served w n lun (Write wide protect lba count) sent = begin w n ways.Write lba count
+served w n lun (SynchronizeCache lba count) sent = answer w (good [])
 
 abbrev pub answered_by : World → Nexus → ℕ → ℕ → List ℕ → Command → List ℕ → Answer
 answered_by w n lun op cdb command sent = first_or (checks w n lun op cdb command sent) (served w n lun command sent)

@@ -4,6 +4,7 @@ use Rattle.pr_words.specs.declared.nexus.Nexus.{Nexus}
 use Rattle.pr_words.specs.declared.code.Code.{Code}
 use Rattle.pr_words.specs.declared.code.Sense.{Sense}
 use Rattle.pr_words.specs.declared.code.Status.{Status}
+use Rattle.pr_words.specs.declared.task.Way.{Way}
 use Rattle.pr_model.specs.Keeping.{Kept}
 
 pub data Act : Type 0 where
@@ -16,7 +17,7 @@ pub data Act : Type 0 where
 pub data Out : Type 0 where
   Login_code : (code : ℕ) → Out
   Ended : (status : Status) → (sense : Option Sense) → (data_in : List ℕ) → Out
-  Started : Out
+  Started : (way : Way) → Out
   Wrote : Out
   Read : (block : List ℕ) → Out
   Done : Out

@@ -1,11 +1,12 @@
 -- Which histories are legal, and the world after each.
-use Rattle.std.specs.Prelude.{◌≡◌, ℕ, ◌==◌, ◌&&◌, nat_lt, not, Bool, List, [], ◌∷◌, ◌++◌, length, Some, None, is_some, if◌then◌else◌}
+use Rattle.std.specs.Prelude.{◌≡◌, ℕ, ◌+◌, ◌==◌, ◌&&◌, nat_lt, not, Bool, false, List, [], ◌∷◌, ◌++◌, length, Option, Some, None, is_some, if◌then◌else◌}
 use Rattle.pr_words.specs.declared.nexus.Nexus.{Nexus}
 use Rattle.pr_model.specs.Limits.{KNOWN}
 use Rattle.pr_model.specs.Keeping.{Kept}
 use Rattle.pr_model.specs.Worlds.{Blocks, World, opened, set_at, is_known}
-use Rattle.pr_model.specs.Entries.{Act, Login, Command, Step, Logout, Power, Out, Login_code, Left, Restored, Entry, History}
+use Rattle.pr_model.specs.Entries.{Act, Login, Command, Step, Logout, Power, Out, Login_code, Left, Restored, Fault, Entry, History}
 use Rattle.pr_model.specs.Commands.{answered}
+use Rattle.pr_model.specs.Steps.{MayStepIn, stepped_in}
 
 -- target ports are 1 to 16
 abbrev pub is_port : ℕ → Bool
@@ -33,7 +34,7 @@ logged_out w n = record w { owner = set_at w.owner n None; task = set_at w.task 
 abbrev pub moved_by : World → ℕ → Nexus → Act → Out → World
 moved_by w who n (Login version) out = if login_code w version n == 0 then logged_in w who n else w
 moved_by w who n (Command lun cdb data_out) out = (answered w n lun cdb data_out).world
-moved_by w who n (Step block) out = w
+moved_by w who n (Step block) out = stepped_in w n (w.task n) block out
 moved_by w who n Logout out = logged_out w n
 moved_by w who n Power (Restored value) = opened w.medium value
 moved_by w who n Power _ = w
@@ -45,12 +46,12 @@ moved w e = moved_by w e.who e.nexus e.act e.out
 abbrev pub Has : World → ℕ → Nexus → Type 0
 Has w who n = w.owner n ≡ Some who
 
--- which outcomes an act may have; steps and power-ups aren't legal yet
+-- which outcomes an act may have; power-ups aren't legal yet
 abbrev pub MayEnd : World → ℕ → Nexus → Act → Out → Type 0
 MayEnd w who n (Login version) out = out ≡ Login_code (login_code w version n)
 MayEnd w who n (Command lun cdb data_out) out =
     Has w who n × (w.task n ≡ None) × (out ≡ (answered w n lun cdb data_out).out)
-MayEnd w who n (Step block) out = ⊥
+MayEnd w who n (Step block) out = Has w who n × MayStepIn w.medium (w.task n) block out
 MayEnd w who n Logout out = Has w who n × (out ≡ Left)
 MayEnd w who n Power out = ⊥
 
@@ -72,3 +73,21 @@ IsLegal medium kept h = IsLegalFrom (opened medium kept) h
 -- legal over every medium of so many blocks, whatever stands on it
 abbrev pub IsLegalOver : ℕ → Kept → History → Type 0
 IsLegalOver count kept h = (medium : Blocks) → medium.count ≡ count → IsLegal medium kept h
+
+-- what stands on a medium is what it tells of its blocks, wherever that is known; of one that tells nothing a read may give anything
+abbrev pub AreBlocksOf : Option (ℕ → List ℕ) → Blocks → Type 0
+AreBlocksOf None m = m.tells ≡ false
+AreBlocksOf (Some held) m = (lba : ℕ) (bytes : List ℕ) → m.at lba ≡ Some bytes → held lba ≡ bytes
+
+-- legal over every medium of so many blocks on which stands what is told of it
+abbrev pub IsLegalOn : ℕ → Option (ℕ → List ℕ) → Kept → History → Type 0
+IsLegalOn count held kept h = (medium : Blocks) → medium.count ≡ count → AreBlocksOf held medium → IsLegal medium kept h
+
+-- how many of the entries are faults of the medium
+abbrev pub faults_by : Out → ℕ
+faults_by (Fault code) = 1
+faults_by _ = 0
+
+abbrev pub faults_in : History → ℕ
+faults_in [] = 0
+faults_in (e ∷ es) = faults_by e.out + faults_in es

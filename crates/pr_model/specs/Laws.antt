@@ -1,5 +1,5 @@
 -- Laws of the definitions.
-use Rattle.std.specs.Prelude.{◌≡◌, ℕ, ◌≤◌, ◌⊎◌, true, false, List, length, Some, None}
+use Rattle.std.specs.Prelude.{◌≡◌, ◌↔◌, ℕ, ◌≤◌, ◌⊎◌, true, false, List, [], ◌∷◌, ◌++◌, length, Some, None}
 use Rattle.pr_words.specs.declared.nexus.Nexus.{Nexus}
 use Rattle.pr_words.specs.declared.code.Status.TheVariants as status
 use Rattle.pr_words.specs.declared.reservation.Kind.{Kind}
@@ -9,11 +9,13 @@ use Rattle.pr_grammar.specs.declared.cdb.Class.TheVariants.{Free}
 use Rattle.pr_grammar.specs.Cdbs.{operation_code}
 use Rattle.pr_grammar.specs.Standings.{Standing, is_holder, is_registered}
 use Rattle.pr_model.specs.Conflicts.{is_forbidden}
-use Rattle.pr_model.specs.Limits.{HELD}
+use Rattle.pr_model.specs.Registrants.{IsSound, IsWellFormed}
+use Rattle.pr_model.specs.Limits.{HELD, LIMIT}
 use Rattle.pr_model.specs.Worlds.{World}
-use Rattle.pr_model.specs.Entries.{Command, Out, Login_code, Ended, Started, Wrote, Read, Done, Aborted, Fault, Left, Restored, Entry, entry}
+use Rattle.pr_model.specs.Entries.{Act, Command, Step, History, Out, Login_code, Ended, Started, Wrote, Read, Done, Aborted, Fault, Left, Restored, Entry, entry}
 use Rattle.pr_model.specs.Commands.{attention_check, answered}
-use Rattle.pr_model.specs.Histories.{Has, MayFollow, moved}
+use Rattle.pr_model.specs.Histories.{Has, MayFollow, moved, after, IsLegalFrom}
+use Rattle.pr_model.specs.Fencing.{Began, WasFenced, IsFenced}
 use Rattle.pr_model.specs.Lanes.{Lane, arrived}
 use Rattle.pr_model.specs.Runs.{Deed, TakesTurn}
 
@@ -28,7 +30,7 @@ IsRefused (Ended status.CheckCondition sense data_in) = Unit {0}
 IsRefused (Ended status.ReservationConflict sense data_in) = Unit {0}
 IsRefused (Ended status.TaskAborted sense data_in) = ⊥
 IsRefused (Login_code code) = ⊥
-IsRefused Started = ⊥
+IsRefused (Started way) = ⊥
 IsRefused Wrote = ⊥
 IsRefused (Read block) = ⊥
 IsRefused Done = ⊥
@@ -68,3 +70,20 @@ RegistrantsPass =
 -- nor one that neither reads nor writes
 abbrev pub FreePass : Type 0
 FreePass = (s : Standing) (n : Nexus) → is_forbidden s n Free ≡ false
+
+-- a legal history is fenced, from any world whose reservation's holder is registered on
+abbrev pub LegalIsFenced : Type 0
+LegalIsFenced = (w : World) (h : History) → IsSound w.standing → IsLegalFrom w h → IsFenced w h
+
+-- a step ends its task with TASK ABORTED just where, since the command that began the task, a PREEMPT AND ABORT that was GOOD removed its nexus; from any world on in which no task runs and registrants are well formed
+abbrev pub AbortedIsFenced : Type 0
+AbortedIsFenced =
+    (w : World) (h : History) (who : ℕ) (n : Nexus) (sent : List ℕ) (out : Out)
+    → ((m : Nexus) → w.task m ≡ None) → IsWellFormed LIMIT w.standing → IsLegalFrom w (h ++ entry who n (Step sent) out ∷ [])
+    → (b : Began h n) × ((out ≡ Aborted) ↔ WasFenced (moved (after w b.before) b.start) b.since n)
+
+-- nothing but a step changes a block
+abbrev pub OnlyStepsMove : Type 0
+OnlyStepsMove =
+    (w : World) (who : ℕ) (n : Nexus) (act : Act) (out : Out) → (((sent : List ℕ) → act ≡ Step sent → ⊥))
+    → (moved w (entry who n act out)).medium ≡ w.medium

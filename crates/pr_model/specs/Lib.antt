@@ -8,9 +8,14 @@ pub mod Cases
 pub mod Effects
 pub mod Attentions
 pub mod Worlds
+pub mod Tasks
 pub mod Entries
+pub mod Steps
 pub mod Commands
 pub mod Histories
 pub mod Lanes
 pub mod Runs
+pub mod Fencing
+pub mod BlockLaws
 pub mod Laws
+pub mod Examples

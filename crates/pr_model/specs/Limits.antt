@@ -12,3 +12,7 @@ KNOWN = 256
 -- bytes of a connection that are held
 abbrev pub HELD : ℕ
 HELD = 524320
+
+-- blocks of one READ or WRITE
+abbrev pub TRANSFER : ℕ
+TRANSFER = 1024

@@ -4,7 +4,7 @@ use Rattle.pr_grammar.specs.Schedules.{Record, Arrival, Step_of, Close_of, lane_
 use Rattle.pr_grammar.specs.Outputs.{output_of}
 use Rattle.pr_model.specs.Limits.{HELD}
 use Rattle.pr_model.specs.Entries.{Logout, Out, Left, History, entry}
-use Rattle.pr_model.specs.Lanes.{Phase, In, Lane, fresh, Turn, Idle, Silent, Asks, turn, arrived}
+use Rattle.pr_model.specs.Lanes.{Phase, In, Busy, Lane, fresh, Turn, Idle, Silent, Asks, turn, arrived}
 
 -- what was done: the entries made, and the bytes written
 pub record Deed : Type 0 where
@@ -42,6 +42,7 @@ TakesTurns (suc turns) who l d m =
 -- where a connection is closed, a nexus that is logged in is logged out without a reply
 abbrev pub closing : ℕ → Phase → History
 closing who (In n) = entry who n Logout Left ∷ []
+closing who (Busy n j) = entry who n Logout Left ∷ []
 closing who _ = []
 
 -- the lane of a closed connection is fresh

@@ -11,9 +11,10 @@ use Rattle.pr_grammar.specs.Standings.{Standing}
 use Rattle.pr_model.specs.Attentions.{powered_on}
 use Rattle.pr_model.specs.Keeping.{Kept, Nothing, Some_kept}
 
--- what stands on the medium: how many logical blocks it has, and the 512 bytes of each; None where nothing is known of them (SBC-3, logical blocks)
+-- what stands on the medium: how many logical blocks it has, whether a read is known to give what stands in a block, and the 512 bytes of each; None where nothing is known of them (SBC-3, logical blocks)
 pub record Blocks : Type 0 where
   pub count : ℕ
+  pub tells : Bool
   pub at : ℕ → Option (List ℕ)
 
 -- a READ or WRITE under way: its first block, its number of blocks, and how many of them were moved

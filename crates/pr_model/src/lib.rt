@@ -13,7 +13,9 @@ ghost use Rattle.pr_model.specs.Acts.{Acted, Good, Bad, ReserveOut, acted, preem
 ghost use Rattle.pr_model.specs.Cases.{Case, Applies, Preempts};
 ghost use Rattle.pr_model.specs.Effects.{Rule, IsRule, Acts};
 ghost use Rattle.pr_model.specs.Attentions.{is_attention};
-ghost use Rattle.pr_model.specs.Laws.{BytesWait, FreePass, HasOneOutcome, HoldersPass, KeepsSize, RefusalsChangeLittle, RegistrantsPass};
+ghost use Rattle.pr_model.specs.Examples.{Transfers, Conflicts, Marks, Steps, Replies};
+ghost use Rattle.pr_model.specs.BlockLaws.{SparedStay, LastDecides};
+ghost use Rattle.pr_model.specs.Laws.{AbortedIsFenced, BytesWait, FreePass, HasOneOutcome, HoldersPass, KeepsSize, LegalIsFenced, OnlyStepsMove, RefusalsChangeLittle, RegistrantsPass};
 ghost use Rattle.pr_model.specs.Keeping.{Kept, kept, same_kept, keeps_by, looks_same, same_reservation};
 
 /// Of each PREEMPT exactly one case applies, and it has exactly one answer, which `preempt` is.
@@ -113,4 +115,36 @@ pub fn holders_never_conflict()
     ensures holders { HoldersPass }
     ensures registrants { RegistrantsPass }
     ensures free { FreePass }
+{}
+
+/// Nothing but a step changes a block: so a refused command changes none.
+pub fn only_steps_change_blocks()
+    ensures { OnlyStepsMove }
+{}
+
+/// In a block stands what the last entry left there that wrote it, read it, or failed to write it.
+pub fn the_last_entry_decides_a_block()
+    ensures spared { SparedStay }
+    ensures decides { LastDecides }
+{}
+
+/// Once a PREEMPT AND ABORT was GOOD, a nexus that it removed changes a block only by a command that
+/// comes later, while the nexus is registered or no reservation stands.
+pub fn a_removed_nexus_is_fenced()
+    ensures { LegalIsFenced }
+{}
+
+/// A task ends with TASK ABORTED just where a PREEMPT AND ABORT that was GOOD removed its nexus
+/// since the command that began the task.
+pub fn task_aborted_comes_of_fencing()
+    ensures { AbortedIsFenced }
+{}
+
+/// Worked examples of commands, conflicts, marks, steps and replies compute.
+pub fn worked_examples()
+    ensures transfers { Transfers }
+    ensures conflicts { Conflicts }
+    ensures marks { Marks }
+    ensures steps { Steps }
+    ensures replies { Replies }
 {}

@@ -1,49 +1,21 @@
--- Tasks: how they begin, and what a step of one does.
-use Rattle.std.specs.Prelude.{◌≡◌, ◌<◌, ◌+◌, ℕ, true, false, Result, Ok, Err, nat_lt, if◌then◌else◌}
+-- How tasks begin, and what a step of one does.
+use Rattle.std.specs.Prelude.{◌≡◌, ◌+◌, ℕ, true, false, Result, Ok, Err, nat_lt, if◌then◌else◌}
 use Rattle.pr_words.specs.declared.code.Code.{Code}
 use Rattle.pr_words.specs.declared.task.Way.{Way}
 use Rattle.pr_words.specs.declared.task.Way.TheVariants as ways
-use Rattle.pr_model.specs.Commands.{invalid_field}
+use Rattle.pr_model.specs.Limits.{TRANSFER}
+use Rattle.pr_model.specs.Commands.{invalid_field, out_of_range}
 use Rattle.pr_model.specs.Worlds.{Task}
+use Rattle.pr_model.specs.Tasks.{new_task, next_block, IsUnderWay, advanced, medium_error}
 use Rattle.pr_tasks.specs.declared.step_out.StepOut.{StepOut}
 use Rattle.pr_tasks.specs.declared.step_out.StepOut.TheVariants.{Wrote, Read, Done, Aborted, Fault}
-
--- the most blocks of one READ or WRITE (this project's own)
-abbrev pub TRANSFER : ℕ
-TRANSFER = 1024
-
--- LOGICAL BLOCK ADDRESS OUT OF RANGE (SPC-4)
-abbrev pub out_of_range : Code
-out_of_range = record { key = 5; asc = 0x21; ascq = 0 }
-
--- how a transfer ends that the medium fails: UNRECOVERED READ ERROR, WRITE ERROR (SPC-4)
-abbrev pub medium_error : Way → Code
-medium_error ways.Read = record { key = 3; asc = 0x11; ascq = 0 }
-medium_error ways.Write = record { key = 3; asc = 0x0C; ascq = 0 }
 
 -- a task of these blocks, or how its command is refused: too many at once (this project's own), or not all within the medium (SBC-3; at no blocks too, which is this project's own)
 abbrev pub begun : Way → ℕ → ℕ → ℕ → Result Task Code
 begun way lba count blocks =
     if nat_lt TRANSFER count then Err invalid_field else
     if nat_lt blocks (lba + count) then Err out_of_range else
-    Ok (record { way = way; lba = lba; count = count; done = 0; aborted = false })
-
--- the block that is moved next
-abbrev pub next_block : Task → ℕ
-next_block t = t.lba + t.done
-
--- blocks are left, and the task isn't marked
-pub record IsUnderWay (t : Task) : Type 0 where
-  pub unmarked : t.aborted ≡ false
-  pub more : t.done < t.count
-
--- one block more was moved
-abbrev pub advanced : Task → Task
-advanced t = record t { done = t.done + 1 }
-
--- marked, so that the next step ends it (SAM-5, aborting commands)
-abbrev pub aborted : Task → Task
-aborted t = record t { aborted = true }
+    Ok (new_task way lba count)
 
 -- which step of a task has this outcome, and the task behind it (this project's own)
 abbrev pub Steps : Task → StepOut → Task → Type 0

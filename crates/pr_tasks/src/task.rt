@@ -1,7 +1,8 @@
 ghost use Rattle.std.specs.Prelude.{◌≡◌, ◌≤◌, ◌+◌, ◌-◌, IfOk, IsTrue};
 ghost use Rattle.pr_io.specs.Causes.{HasCause};
 ghost use Rattle.pr_io.specs.Contents.{ReadsBlock, WritesBlock};
-ghost use Rattle.pr_tasks.specs.Steps.{IsUnderWay, Steps, aborted, answered, begun, next_block};
+ghost use Rattle.pr_model.specs.Tasks.{IsUnderWay, aborted, next_block};
+ghost use Rattle.pr_tasks.specs.Steps.{Steps, answered, begun};
 
 use crate::StepOut;
 use pr_io::Medium;

@@ -7,7 +7,7 @@ use Rattle.std.proofs.lemmas.Bool.{cases_eq}
 use Rattle.pr_words.specs.declared.nexus.Nexus.{Nexus}
 use Rattle.pr_io.specs.Told.{ToldSink}
 use Rattle.pr_grammar.specs.Schedules.{Record, Arrival, Step_of, Close_of, IsRecord, lane_of}
-use Rattle.pr_model.specs.Lanes.{Lane, Phase, Fresh, In, Dead, fresh}
+use Rattle.pr_model.specs.Lanes.{Lane, Phase, Fresh, In, Busy, Dead, fresh}
 use Rattle.pr_model.specs.Runs.{Deed, ActsOn}
 use Rattle.pr_io.specs.declared.outside.Medium as media
 use Rattle.pr_io.specs.declared.outside.Disk as disks
@@ -37,6 +37,7 @@ some_is x y is = cc
 keeps_agrees : {M D : Type 0} {gm : media.Ghosts M} {gd : disks.Ghosts D} (who other : ℕ) (old new : Core M D gm gd) (p : Phase) → KeepsOthers who old new → (other ≡ who → ⊥) → Agrees p other old → Agrees p other new
 keeps_agrees who other old new Fresh keeps apart agrees = tt
 keeps_agrees who other old new (In n) keeps apart agrees = keeps other n apart agrees
+keeps_agrees who other old new (Busy n j) keeps apart agrees = keeps other n apart agrees
 keeps_agrees who other old new Dead keeps apart agrees = tt
 
 -- a core that kept the owners of the other nexuses twice kept them

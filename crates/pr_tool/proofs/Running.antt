@@ -7,7 +7,7 @@ use Rattle.pr_io.proofs.Pieces.{put_more, put_nothing}
 use Rattle.pr_grammar.specs.Outputs.{output_of}
 use Rattle.pr_grammar.specs.Schedules.{Arrival}
 use Rattle.pr_model.specs.Limits.{HELD}
-use Rattle.pr_model.specs.Lanes.{Lane, Phase, Fresh, In, Dead, fresh, arrived, turn}
+use Rattle.pr_model.specs.Lanes.{Lane, Phase, Fresh, In, Busy, Dead, AwaitsFrame, fresh, arrived, turn}
 use Rattle.pr_model.specs.Runs.{Deed, deed, TakesTurn, TakesTurns, CutsTurn, RunsRecord, CutsRecord, closing, Closes}
 use Rattle.pr_model.proofs.Overflow.{MadeRoom, Has_died, Has_room, room_made, takes_more, turns-append, arrived-append, arrived-nil}
 use Rattle.pr_io.specs.declared.outside.Medium as media
@@ -17,6 +17,9 @@ use Rattle.pr_core.specs.View.{Extends}
 use Rattle.pr_core.proofs.Entering.{extends_none, extends_append}
 use Rattle.pr_tool.specs.Following.{Agrees, Follows, fed, fed_at}
 use Rattle.pr_tool.specs.Exits.{Ran}
+use Rattle.pr_tool.specs.declared.session.Phase as sessions
+use Rattle.pr_tool.specs.declared.session.Phase.TheVariants as session
+use Rattle.pr_tool.specs.Phases.{phase_of}
 
 -- a turn whose reply was written
 pub turn_ran : {M D : Type 0} {gm : media.Ghosts M} {gd : disks.Ghosts D} (who : ℕ) (old new : Core M D gm gd) (a b : ToldSink) (l m : Lane) (reply : List ℕ) → Follows who old l (turn l) new m reply → Put a.written b.written (output_of who reply) → Ran (TakesTurn who) a b old l new m
@@ -38,11 +41,13 @@ fed_some : (p : Phase) (bytes more : List ℕ) → (p ≡ Dead → ⊥) → leng
 fed_some Dead bytes more alive room some = absurd (alive refl)
 fed_some Fresh bytes more alive room some = omega arith
 fed_some (In n) bytes more alive room some = omega arith
+fed_some (Busy n j) bytes more alive room some = omega arith
 
 fed_room : (p : Phase) (bytes more : List ℕ) → length bytes < HELD → 0 < length more → 0 < fed_at p bytes more
 fed_room Dead bytes more room some = some
 fed_room Fresh bytes more room some = omega arith
 fed_room (In n) bytes more room some = omega arith
+fed_room (Busy n j) bytes more room some = omega arith
 
 dead_fed : (p : Phase) (bytes more : List ℕ) → p ≡ Dead → 0 < length more → 0 < fed_at p bytes more
 dead_fed p bytes more is some = rw is some
@@ -53,8 +58,14 @@ made_room m more (Has_room l room) some = fed_room m.phase m.bytes more room som
 
 -- after a turn of a full lane that lives there is room
 pub turn_room : {M D : Type 0} {gm : media.Ghosts M} {gd : disks.Ghosts D} (who : ℕ) (old new : Core M D gm gd) (l m : Lane) (reply : List ℕ) → Follows who old l (turn l) new m reply
-    → length l.bytes ≡ HELD → (l.phase ≡ Dead → ⊥) → (more : List ℕ) → 0 < length more → 0 < fed m more
-turn_room who old new l m reply f full alive more some = made_room m more (room_made who l m f.entries reply full alive f.makes) some
+    → length l.bytes ≡ HELD → AwaitsFrame l.phase → (more : List ℕ) → 0 < length more → 0 < fed m more
+turn_room who old new l m reply f full awaits more some = made_room m more (room_made who l m f.entries reply full awaits f.makes) some
+
+-- a session that lives looks at its frame
+pub awaits_frame : (p : sessions.Phase) → (phase_of p ≡ Dead → ⊥) → AwaitsFrame (phase_of p)
+awaits_frame session.Fresh alive = tt
+awaits_frame (session.In n) alive = tt
+awaits_frame session.Dead alive = absurd (alive refl)
 
 -- turns that make room for bytes that arrive
 
@@ -65,16 +76,19 @@ bytes_alive : (p : Phase) (bytes more : List ℕ) (place : ℕ) → (p ≡ Dead 
 bytes_alive Dead bytes more place alive = absurd (alive refl)
 bytes_alive Fresh bytes more place alive = length-append bytes more
 bytes_alive (In n) bytes more place alive = length-append bytes more
+bytes_alive (Busy n j) bytes more place alive = length-append bytes more
 
 fed_not_all : (p : Phase) (bytes more : List ℕ) (n : ℕ) → n ≡ fed_at p bytes more → n < length more → p ≡ Dead → ⊥
 fed_not_all Dead bytes more n is less dead = omega (arith, is, less)
 fed_not_all Fresh bytes more n is less dead = absurd cc
 fed_not_all (In m) bytes more n is less dead = absurd cc
+fed_not_all (Busy m j) bytes more n is less dead = absurd cc
 
 fed_count : (p : Phase) (bytes more : List ℕ) → (p ≡ Dead → ⊥) → fed_at p bytes more ≡ min (length more) (HELD - length bytes)
 fed_count Dead bytes more alive = absurd (alive refl)
 fed_count Fresh bytes more alive = refl
 fed_count (In m) bytes more alive = refl
+fed_count (Busy m j) bytes more alive = refl
 
 same_phase : (l : Lane) (more : List ℕ) → (arrived l more).phase ≡ l.phase
 same_phase l more = by_phase l.phase l.bytes l.place
@@ -83,6 +97,7 @@ same_phase l more = by_phase l.phase l.bytes l.place
     by_phase Dead bytes place = refl
     by_phase Fresh bytes place = refl
     by_phase (In n) bytes place = refl
+    by_phase (Busy n j) bytes place = refl
 
 -- where not all bytes were taken, the lane lives and is full
 pub fed_full : (l m : Lane) (more : List ℕ) (n : ℕ) → n ≡ fed l more → m ≡ arrived l (take n more) → length m.bytes ≤ HELD → n < length more → (length m.bytes ≡ HELD) × (m.phase ≡ Dead → ⊥)
@@ -191,6 +206,7 @@ pub fed_within : (p : Phase) (bytes more : List ℕ) → fed_at p bytes more ≤
 fed_within Dead bytes more = omega arith
 fed_within Fresh bytes more = omega arith
 fed_within (In n) bytes more = omega arith
+fed_within (Busy n j) bytes more = omega arith
 
 -- a session agrees with a core as before while bytes come
 pub agrees_still : {M D : Type 0} {gm : media.Ghosts M} {gd : disks.Ghosts D} (who : ℕ) (c : Core M D gm gd) (l m : Lane) (more : List ℕ) → m ≡ arrived l more → Agrees l.phase who c → Agrees m.phase who c

@@ -3,13 +3,17 @@ use Rattle.std.proofs.Common.{◌≡◌, ℕ, ◌∙◌, true, List, take, refl,
 use Rattle.pr_link.specs.declared.frame.Frame.{Frame}
 use Rattle.pr_link.specs.declared.frame.Got.TheVariants as got
 use Rattle.pr_link.specs.Streams.{Stream, frame_of}
-use Rattle.pr_grammar.specs.Frames.{Front, Lacking, Broken, Whole}
+use Rattle.pr_words.specs.declared.nexus.Side.TheVariants.{Target}
+use Rattle.pr_grammar.specs.Frames.{Front, Lacking, Broken, Whole, front}
 use Rattle.pr_grammar.specs.Frames as frames
 use Rattle.pr_grammar.specs.Bodies.{login_nexus, login_version, command_cdb, command_data}
 use Rattle.pr_words.specs.declared.nexus.Nexus.{Nexus}
 use Rattle.pr_model.specs.Entries.{Login, Command}
-use Rattle.pr_model.specs.Lanes.{Phase, Fresh, In, Dead, Idle, Asks, broken, asked, turn_at, after_login, after_command, place_after}
+use Rattle.pr_model.specs.Lanes.{Phase, Fresh, In, Dead, Idle, Asks, broken, asked, turn_at, turn_by, after_login, after_command, place_after}
 use Rattle.pr_tool.specs.Following.{Receives}
+use Rattle.pr_tool.specs.declared.session.Phase as sessions
+use Rattle.pr_tool.specs.declared.session.Phase.TheVariants as session
+use Rattle.pr_tool.specs.Phases.{phase_of}
 
 pub dead_idle : (place : ℕ) (f : Front) → turn_at Dead place f ≡ Idle
 dead_idle place (Lacking k) = refl
@@ -33,3 +37,9 @@ asked_login place f rest is = rw is refl
 pub asked_command : (n : Nexus) (place : ℕ) (f : frames.Frame) (rest : List ℕ) → eqb f.kind 2 ≡ true
     → asked (In n) place f rest ≡ Asks n (Command f.lun (command_cdb f.body) (command_data f.body)) (after_command n f rest (place_after place f))
 asked_command n place f rest is = rw is refl
+
+-- a session's turn is that of the frame in front
+pub turn_in_front : (p : sessions.Phase) (bytes : List ℕ) (place : ℕ) → turn_by (phase_of p) bytes place ≡ turn_at (phase_of p) place (front Target bytes)
+turn_in_front session.Fresh bytes place = refl
+turn_in_front (session.In n) bytes place = refl
+turn_in_front session.Dead bytes place = refl

@@ -4,7 +4,7 @@ use Rattle.pr_words.specs.declared.nexus.Side.TheVariants.{Target}
 use Rattle.pr_grammar.specs.Frames.{Front, Lacking, Broken, Whole, frame_size}
 use Rattle.pr_model.specs.Limits.{HELD}
 use Rattle.pr_model.specs.Entries.{History}
-use Rattle.pr_model.specs.Lanes.{Lane, Phase, Fresh, In, Dead, Turn}
+use Rattle.pr_model.specs.Lanes.{Lane, Phase, Fresh, In, Busy, Dead, Turn}
 use Rattle.pr_model.specs.Runs.{Makes}
 use Rattle.pr_io.specs.declared.outside.Medium as media
 use Rattle.pr_io.specs.declared.outside.Disk as disks
@@ -18,6 +18,7 @@ use Rattle.pr_link.specs.declared.frame.Got.TheVariants as got
 abbrev pub Agrees : {M D : Type 0} {gm : media.Ghosts M} {gd : disks.Ghosts D} → Phase → ℕ → Core M D gm gd → Type 0
 Agrees Fresh who c = Unit {0}
 Agrees (In n) who c = owner_of c n ≡ Some who
+Agrees (Busy n j) who c = owner_of c n ≡ Some who
 Agrees Dead who c = Unit {0}
 
 -- the core has each lane's nexus logged in by the number of its place

@@ -1,4 +1,4 @@
-use Rattle.std.proofs.Common.{◌≡◌, ◌⊎◌, inl, inr, Bool, true, ◌∙◌, sym, refl}
+use Rattle.std.proofs.Common.{◌≡◌, ◌⊎◌, inl, inr, true, ◌∙◌, sym}
 use Rattle.pr_core.proofs.Checking.{ReadsList, list_passes, list_fails}
 use Rattle.pr_core.proofs.checks.check_reserve_out.Goals as goal
 use Rattle.pr_core.proofs.checks.check_reserve_out.Goals.{then-list_is_bad-via-then-list_is_bad, then-list_is_bad-via-else-list_is_bad+then-list}

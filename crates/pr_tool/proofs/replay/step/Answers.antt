@@ -3,7 +3,7 @@ use Rattle.pr_model.specs.Lanes.{Lane, turn}
 use Rattle.pr_io.proofs.Sent.{on_err, on_ok}
 use Rattle.pr_tool.specs.Following.{Follows}
 use Rattle.pr_tool.specs.Sessions.{lane_of, reply_of}
-use Rattle.pr_tool.proofs.Running.{turn_ran, turn_cut, turn_room}
+use Rattle.pr_tool.proofs.Running.{turn_ran, turn_cut, turn_room, awaits_frame}
 use Rattle.pr_tool.proofs.replay.step.Goals as goal
 
 pub returns-clause-all : goal.returns-clause-all
@@ -19,4 +19,4 @@ returns-clause-some g c =
 pub returns-clause-room : goal.returns-clause-room
 returns-clause-room g c =
     let follows = subst (λ (m : Lane). Follows c.args.who c.args.core.now (lane_of c.args.lane.now) (turn (lane_of c.args.lane.now)) c.turn.new.core m (reply_of c.turn.new.self)) (sym c.write_reply.ensures.lane) c.turn.ensures.follows in
-    turn_room c.args.who c.args.core.now c.turn.new.core (lane_of c.args.lane.now) _ _ follows
+    λ full alive. turn_room c.args.who c.args.core.now c.turn.new.core (lane_of c.args.lane.now) _ _ follows full (awaits_frame c.args.lane.now.phase alive)

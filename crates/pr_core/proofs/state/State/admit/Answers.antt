@@ -1,4 +1,4 @@
-use Rattle.std.proofs.Common.{◌≡◌, ◌∙◌, refl, sym, ap, subst, lit<, Option, Result, Ok, Err}
+use Rattle.std.proofs.Common.{◌∙◌, sym, subst, Option, Result, Ok, Err}
 use Rattle.pr_words.specs.declared.code.Code.{Code}
 use Rattle.pr_grammar.specs.declared.operation.OperationCode.{OperationCode}
 use Rattle.pr_grammar.specs.Cdbs.{operation_code}
