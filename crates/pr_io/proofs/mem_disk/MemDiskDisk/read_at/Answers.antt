@@ -1,0 +1,11 @@
+use Rattle.pr_io.proofs.Recording.{noted_other, not_noted}
+use Rattle.pr_io.proofs.mem_disk.MemDiskDisk.read_at.Goals as goal
+
+pub returns-in_err-note-clause-stays : goal.returns-in_err-note-clause-stays
+returns-in_err-note-clause-stays c = not_noted _ _ _ c.in_err-note.ensures.err
+
+pub returns-then-fails-clause-stays : goal.returns-then-fails-clause-stays
+returns-then-fails-clause-stays c = noted_other _ _ _ c.in_ok-note.ensures.ok
+
+pub returns-clause-stays : goal.returns-clause-stays
+returns-clause-stays c = noted_other _ _ _ c.in_ok-note.ensures.ok
