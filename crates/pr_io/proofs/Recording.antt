@@ -1,12 +1,13 @@
 -- One call more joins the record.
 use Rattle.std.proofs.Common.{◌≡◌, ◌⊎◌, inl, inr, ⊎_elim, ℕ, zero, suc, ◌+◌, ◌-◌, ◌<◌, ◌≤◌, nat_le, nat_lt, Bool, true, false, not, ◌&&◌, ◌||◌, if◌then◌else◌, List, [], ◌∷◌, ◌++◌, length, take, drop, slice_index, Vec, Some, Result, Ok, Err, OnOk, OnErr, IsErr, refl, sym, ◌∙◌, ap, subst, arith, length-append}
 use Rattle.std.proofs.Math.Path.{fun_ext}
+use Rattle.std.proofs.Math.Nat.{le_refl}
 use Rattle.std.specs.List.{list_any}
 use Rattle.std.proofs.lemmas.List.{take-append-le, drop-append-le, take_all, drop_all, length_push}
 use Rattle.std.proofs.lemmas.List.Folds.{list_any-append}
-use Rattle.std.proofs.lemmas.Bool.{cases_Bool, or_parts, or_from, and_cases, and_left, and_right, and_parts, or_left, not_from_true, cases_lt, leb-true, ltb-true, le-leb, lt-ltb, both_ways, lt-leb, le-ltb, leb-false, ltb-false}
+use Rattle.std.proofs.lemmas.Bool.{false≢true, cases_Bool, or_parts, or_from, and_cases, and_left, and_right, and_parts, or_left, not_from_true, cases_lt, leb-true, ltb-true, le-leb, lt-ltb, both_ways, lt-leb, le-ltb, leb-false, ltb-false}
 use Rattle.std.specs.declared.alloc.Global.{Global}
-use Rattle.pr_io.specs.Images.{Image, Story, Holds, Within, image_of, Stays, Wrote, Writes, Syncs}
+use Rattle.pr_io.specs.Images.{Image, Story, Holds, Within, image_of, Stays, Wrote, Writes, Syncs, GoesOn, IsPending}
 use Rattle.pr_io.specs.DiskCalls.{is_sync, covers, is_pending, undone, before_all, IsLeft, MayLeave, recorded, since_before}
 use Rattle.pr_io.proofs.Spanning.{wrote_within}
 use Rattle.std.proofs.lemmas.Result.{IfOk-from_err, MatchResult-from_err}
@@ -180,3 +181,51 @@ synced_or_not (Err e) bytes calls later ok err = staying (Err e) _ _ refl (not_n
 pub struck_write : {T E : Type 0} (r : Result T E) (at : ℕ) (piece bytes : List ℕ) (was : Vec ℕ Global) (calls later : List DiskCall) → IsErr r → later ≡ calls ++ Write at was ∷ []
     → length was.items ≡ length piece → Holds at was.items (image_of bytes) → Writes r at piece (recorded bytes calls) (recorded bytes later)
 struck_write r at piece bytes was calls later err is len stood = noted_write r at piece bytes bytes was calls later is len stood (MatchResult-from_err r _ _ err (λ e i out. refl))
+
+-- what isn't pending after one call more wasn't before it, and isn't in the call's range
+pending_pop : (cs : List DiskCall) (w : DiskCall) (i : ℕ) → is_sync w ≡ false → is_pending (cs ++ w ∷ []) i ≡ false → (is_pending cs i ≡ false) × (covers w i ≡ false)
+pending_pop [] w i plain clean = (refl, ⊎_elim (λ out. out) (λ (never : true ≡ false). absurd (false≢true (sym never))) (and_cases (covers w i) true clean))
+pending_pop (c ∷ cs) w i plain clean =
+    let parts = or_parts (is_pending (cs ++ w ∷ []) i) _ clean in
+    let before = pending_pop cs w i plain parts.0 in
+    let same : list_any is_sync (cs ++ w ∷ []) ≡ list_any is_sync cs =
+    list_any-append is_sync cs (w ∷ []) ∙ ap (λ (b : Bool). list_any is_sync cs || (b || false)) plain ∙ or_false (list_any is_sync cs) in
+    (or_from _ _ before.0 (ap (λ (b : Bool). covers c i && not b) (sym same) ∙ parts.1), before.1)
+  where
+    or_false : (b : Bool) → (b || (false || false)) ≡ b
+    or_false true = refl
+    or_false false = refl
+
+-- what might be left just before a call that is no sync, with any bytes in its range, may be left after it
+pub more_left : (calls : List DiskCall) (w : DiskCall) (f g : Image) → is_sync w ≡ false → ((i : ℕ) → covers w i ≡ false → g i ≡ f i)
+    → (d c : Image) → MayLeave calls f (length calls) d → ((i : ℕ) → covers w i ≡ false → c i ≡ d i) → MayLeave (calls ++ w ∷ []) g (length (calls ++ w ∷ [])) c
+more_left calls w f g plain outside d c may agree = (length (calls ++ w ∷ []), le_refl (length (calls ++ w ∷ [])), le_refl (length (calls ++ w ∷ [])), left)
+  where
+    left : IsLeft (calls ++ w ∷ []) g (length (calls ++ w ∷ [])) c
+    left i clean =
+        let whole : take (length (calls ++ w ∷ [])) (calls ++ w ∷ []) ≡ calls ++ w ∷ [] = take_all (length (calls ++ w ∷ [])) (calls ++ w ∷ []) (omega arith) in
+        let none : drop (length (calls ++ w ∷ [])) (calls ++ w ∷ []) ≡ [] = drop_all (length (calls ++ w ∷ [])) (calls ++ w ∷ []) (omega arith) in
+        let first : take may.0 calls ≡ calls = take_all may.0 calls (omega (arith, may.1)) in
+        let last : drop may.0 calls ≡ [] = drop_all may.0 calls (omega (arith, may.1)) in
+        let was = pending_pop calls w i plain (ap (λ (l : List DiskCall). is_pending l i) (sym whole) ∙ clean) in
+        agree i was.1 ∙ may.3 i (ap (λ (l : List DiskCall). is_pending l i) first ∙ was.0) ∙ ap (λ (l : List DiskCall). before_all l f i) last
+        ∙ sym (outside i was.1) ∙ ap (λ (l : List DiskCall). before_all l g i) (sym none)
+
+pub noted_goes_on : (bytes : List ℕ) (calls later : List DiskCall) → later ≡ calls ++ Other ∷ [] → GoesOn (recorded bytes calls) (recorded bytes later)
+noted_goes_on bytes calls later is = subst (λ (l : List DiskCall). GoesOn (recorded bytes calls) (recorded bytes l)) (sym is)
+    (λ c may. more_left calls Other (image_of bytes) (image_of bytes) refl (λ i out. refl) c c may (λ i out. refl))
+
+pub unnoted_goes_on : (bytes : List ℕ) (calls later : List DiskCall) → later ≡ calls → GoesOn (recorded bytes calls) (recorded bytes later)
+unnoted_goes_on bytes calls later is = subst (λ (l : List DiskCall). GoesOn (recorded bytes calls) (recorded bytes l)) (sym is) (λ c may. may)
+
+pub noted_pending : (at n : ℕ) (old new : List ℕ) (was : Vec ℕ Global) (calls later : List DiskCall) → later ≡ calls ++ Write at was ∷ [] → length was.items ≡ n
+    → Within at n (image_of old) (image_of new) → IsPending at n (recorded old calls) (recorded new later)
+noted_pending at n old new was calls later is len within = subst (λ (l : List DiskCall). IsPending at n (recorded old calls) (recorded new l)) (sym is)
+    (λ d c may torn. more_left calls (Write at was) (image_of old) (image_of new) refl (λ i out. within i (range i out)) d c may (λ i out. torn i (range i out)))
+  where
+    range : (i : ℕ) → covers (Write at was) i ≡ false → (i < at) ⊎ (at + n ≤ i)
+    range i out = subst (λ m. (i < at) ⊎ (at + m ≤ i)) len (outside_of at (length was.items) i out)
+
+pub sync_goes_on : {T E : Type 0} (r : Result T E) (bytes : List ℕ) (calls later : List DiskCall) → OnErr r (later ≡ calls) → OnErr r (GoesOn (recorded bytes calls) (recorded bytes later))
+sync_goes_on (Ok x) bytes calls later err = tt
+sync_goes_on (Err e) bytes calls later err = unnoted_goes_on bytes calls later err

@@ -61,6 +61,14 @@ pub record Syncs {T E : Type 0} (result : Result T E) (old new : Story) : Type 0
   pub stays : Stays old new
   pub kept : OnOk result ((c : Image) → new.may new.moment c → new.now ≡ Some c)
 
+-- what a power loss may leave it may leave still
+abbrev pub GoesOn : Story → Story → Type 0
+GoesOn old new = (c : Image) → old.may old.moment c → new.may new.moment c
+
+-- a range is pending: a power loss may leave any bytes in it, beside what it may leave elsewhere
+abbrev pub IsPending : ℕ → ℕ → Story → Story → Type 0
+IsPending at n old new = (d c : Image) → old.may old.moment d → Within at n d c → new.may new.moment c
+
 -- what is told by a disk that tells what a read gives alone
 abbrev pub read_alone : List ℕ → Story
 read_alone bytes = record { now = Some (image_of bytes); moment = 0; may = λ t c. ⊥ }

@@ -3,7 +3,7 @@ ghost use Rattle.pr_io.specs.Blocks.{disk_size};
 ghost use Rattle.pr_io.specs.Calls.{IsToFail, next_call};
 ghost use Rattle.pr_io.specs.Causes.{HasCause, Rose};
 ghost use Rattle.pr_io.specs.DiskCalls.{AreInside};
-ghost use Rattle.pr_io.specs.Images.{Holds, Image, Reads, Stays, Syncs, Writes, Written, image_of};
+ghost use Rattle.pr_io.specs.Images.{GoesOn, Holds, Image, IsPending, Reads, Stays, Syncs, Writes, Written, image_of};
 
 use crate::calls::Calls;
 use crate::disk_call::DiskCall;
@@ -82,6 +82,8 @@ impl Disk for MemDisk {
         ensures bytes { OnOk result (Reads (⟦<MemDisk as Disk>⟧.story self.old).now at buf.new) }
         ensures stays { Stays (⟦<MemDisk as Disk>⟧.story self.old)
             (⟦<MemDisk as Disk>⟧.story self.new) }
+        ensures pending { GoesOn (⟦<MemDisk as Disk>⟧.story self.old)
+            (⟦<MemDisk as Disk>⟧.story self.new) }
         ensures cause { HasCause (⟦<MemDisk as Disk>⟧.faults self.old)
             (⟦<MemDisk as Disk>⟧.faults self.new) result }
         ensures listed { IsToFail self.old.calls.failing.items self.old.calls.made → IsErr result }
@@ -110,6 +112,9 @@ impl Disk for MemDisk {
         requires { at + length bytes.now ≤ disk_size }
         ensures writes { Writes result at bytes.now (⟦<MemDisk as Disk>⟧.story self.old)
             (⟦<MemDisk as Disk>⟧.story self.new) }
+        ensures pending { Rose self.old.starved self.new.starved
+            ⊎ IsPending at (length bytes.now) (⟦<MemDisk as Disk>⟧.story self.old)
+            (⟦<MemDisk as Disk>⟧.story self.new) }
         ensures cause { HasCause (⟦<MemDisk as Disk>⟧.faults self.old)
             (⟦<MemDisk as Disk>⟧.faults self.new) result }
         ensures listed { IsToFail self.old.calls.failing.items self.old.calls.made → IsErr result }
@@ -137,6 +142,8 @@ impl Disk for MemDisk {
     fn sync(&mut self) -> Result<(), Failed>
         ensures syncs { Syncs result (⟦<MemDisk as Disk>⟧.story self.old)
             (⟦<MemDisk as Disk>⟧.story self.new) }
+        ensures pending { OnErr result (GoesOn (⟦<MemDisk as Disk>⟧.story self.old)
+            (⟦<MemDisk as Disk>⟧.story self.new)) }
         ensures cause { HasCause (⟦<MemDisk as Disk>⟧.faults self.old)
             (⟦<MemDisk as Disk>⟧.faults self.new) result }
         ensures listed { IsToFail self.old.calls.failing.items self.old.calls.made → IsErr result }

@@ -1,5 +1,5 @@
-use Rattle.std.proofs.Common.{Err, refl}
-use Rattle.pr_io.proofs.Recording.{noted_write, struck_write, nothing_written}
+use Rattle.std.proofs.Common.{Err, inr, refl}
+use Rattle.pr_io.proofs.Recording.{noted_write, struck_write, nothing_written, noted_pending}
 use Rattle.pr_io.proofs.mem_disk.MemDiskDisk.write_at.Goals as goal
 
 pub returns-in_err-note-clause-writes : goal.returns-in_err-note-clause-writes
@@ -13,3 +13,9 @@ returns-clause-writes c = noted_write _ _ _ _ _ _ _ _ c.in_ok-note.ensures.ok c.
 
 pub returns-in_default-clause-writes : goal.returns-in_default-clause-writes
 returns-in_default-clause-writes c = nothing_written (Err c.raise.result) _ _ _ _ _ refl refl
+
+pub returns-then-fails-clause-pending : goal.returns-then-fails-clause-pending
+returns-then-fails-clause-pending c = inr (noted_pending _ _ _ _ _ _ _ c.in_ok-note.ensures.ok c.in-Ok.ensures.length (λ i out. refl))
+
+pub returns-clause-pending : goal.returns-clause-pending
+returns-clause-pending c = inr (noted_pending _ _ _ _ _ _ _ c.in_ok-note.ensures.ok c.in-Ok.ensures.length c.overwrite.ensures.written.1)
