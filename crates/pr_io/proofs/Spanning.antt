@@ -71,3 +71,16 @@ now_synced w x r at bytes a b c ok moves same = subst (Moves (Wrote r at bytes) 
     either : {U F : Type 0} (r : Result U F) (d e : Image) → Wrote w at bytes d e → Wrote r at bytes d e
     either (Ok y) d e wrote = MatchResult-at_ok (λ _. Written at bytes d e) (λ _. Within at (length bytes) d e) x ok wrote
     either (Err y) d e wrote = wrote_within w at bytes d e wrote
+
+-- a sync alone
+pub settled : (s0 s1 : Story) {T E : Type 0} (r : Result T E) → Syncs r s0 s1 → Since s1 → Settles r s0 s1
+settled s0 s1 r s since = record {
+  goes = record {
+    later = s.stays.later;
+    each = λ c may. inr (s.stays.may s0.moment c (omega arith) may);
+    before = λ t c le may. inl (s.stays.may t c le may);
+  };
+  left = sync_left s0 s1 r s since;
+  done = s.kept;
+  now = s.stays.now;
+}

@@ -27,8 +27,9 @@ pub record Puts {T E : Type 0} (result : Result T E) (at : ℕ) (bytes : List �
   pub done : OnOk result ((c : Image) → Admits new c → Has old at bytes c)
   pub now : Moves (Wrote result at bytes) old.now new.now
 
--- a sync alone: nothing comes that wasn't admitted
-pub record Settles (old new : Story) : Type 0 where
+-- a sync alone: nothing comes that wasn't admitted, and after one that succeeds a power loss leaves what a read gives
+pub record Settles {T E : Type 0} (result : Result T E) (old new : Story) : Type 0 where
   pub goes : Goes old new (Admits old)
   pub left : (c : Image) → Admits new c → Admits old c
+  pub done : OnOk result ((c : Image) → new.may new.moment c → new.now ≡ Some c)
   pub now : new.now ≡ old.now

@@ -32,4 +32,6 @@ pub use sure::{SureDisk, SureMedium, SureSink, SureSource};
 pub use writing::{put_all, put_three, put_two};
 
 #[cfg(test)]
+mod disk_tests;
+#[cfg(test)]
 mod tests;

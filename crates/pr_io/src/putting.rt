@@ -25,7 +25,7 @@ pub fn put<D: Disk>(disk: &mut D, at: u64, bytes: &[u8]) -> Result<(), Failed>
 ///
 /// Where the disk has failed. It holds the same nevertheless.
 pub fn settle<D: Disk>(disk: &mut D) -> Result<(), Failed>
-    ensures settles { Settles (D.story disk.old) (D.story disk.new) }
+    ensures settles { Settles result (D.story disk.old) (D.story disk.new) }
     ensures cause { HasCause (D.faults disk.old) (D.faults disk.new) result }
 {
     disk.sync()

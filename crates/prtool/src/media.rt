@@ -1,6 +1,7 @@
 ghost use Rattle.std.specs.Prelude.{◌≡◌, ◌≤◌, ◌++◌, ◌*◌, length, drop, IfOk};
 ghost use Rattle.pr_io.specs.Blocks.{disk_size};
-ghost use Rattle.prtool.specs.Images.{AreZero, BeginsWith, file_head};
+ghost use Rattle.pr_grammar.specs.Files.{file_head};
+ghost use Rattle.prtool.specs.Images.{AreZero, BeginsWith};
 
 use pr_io::{DISK, FRESH_HEAD};
 use std::alloc::{AllocError, Global};
