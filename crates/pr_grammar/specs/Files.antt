@@ -15,7 +15,7 @@ use Rattle.pr_words.specs.declared.nexus.Pair.{Pair}
 use Rattle.pr_words.specs.declared.reservation.Kind.{Kind}
 use Rattle.pr_words.specs.declared.reservation.Reservation.{Reservation}
 use Rattle.pr_words.specs.declared.reservation.Reservation.TheVariants.{Free, OfOne, OfAll}
-use Rattle.pr_grammar.specs.Standings.{Kept, Nothing, Some_kept, is_all, is_port}
+use Rattle.pr_grammar.specs.Standings.{Kept, Nothing, Some_kept, is_all, is_port, kind_of, holder_of}
 use Rattle.pr_grammar.specs.declared.file.FileLayout.{FileLayout}
 
 -- ASCII PRKEEPER, and the version
@@ -180,22 +180,22 @@ abbrev pub spelled_fields : ℕ → ℕ → ℕ → ℕ → ℕ → List ℕ
 spelled_fields turn is_kept kind n holder =
     0xA5 ∷ turn ∷ is_kept ∷ kind ∷ (to_be_bytes w16 n ++ to_be_bytes w16 holder ++ (0 ∷ 0 ∷ 0 ∷ 0 ∷ 0 ∷ 0 ∷ 0 ∷ 0 ∷ []))
 
-abbrev pub type_code : Reservation → ℕ
-type_code Free = 0
-type_code (OfOne kind holder) = kind_code kind
-type_code (OfAll kind) = kind_code kind
+-- the number of the held type, 0 where none is held
+abbrev pub type_code : Option Kind → ℕ
+type_code None = 0
+type_code (Some kind) = kind_code kind
 
 -- a nexus's place among registrations; their number where it isn't registered
 abbrev pub place_in : List Pair → Nexus → ℕ
 place_in [] n = 0
 place_in (p ∷ ps) n = if same_nexus p.nexus n then 0 else suc (place_in ps n)
 
-abbrev pub holder_place : Reservation → List Pair → ℕ
-holder_place Free ps = 0xFFFF
-holder_place (OfOne kind holder) ps = place_in ps holder
-holder_place (OfAll kind) ps = 0xFFFF
+-- the place of the one nexus that holds
+abbrev pub holder_place : Option Nexus → List Pair → ℕ
+holder_place None ps = 0xFFFF
+holder_place (Some holder) ps = place_in ps holder
 
 -- the spelling of an open slot
 abbrev pub spelled_slot : ℕ → Kept → List ℕ
 spelled_slot turn Nothing = spelled_fields turn 0 0 0 0xFFFF
-spelled_slot turn (Some_kept ps r) = spelled_fields turn 1 (type_code r) (length ps) (holder_place r ps) ++ flat_map spelled_pair ps
+spelled_slot turn (Some_kept ps r) = spelled_fields turn 1 (type_code (kind_of r)) (length ps) (holder_place (holder_of r) ps) ++ flat_map spelled_pair ps
