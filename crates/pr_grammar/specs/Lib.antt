@@ -1,4 +1,5 @@
 pub mod Standings
+pub mod Files
 pub mod Senses
 pub mod Operations
 pub mod Cdbs

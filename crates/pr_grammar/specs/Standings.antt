@@ -1,9 +1,10 @@
 -- Where registrations and the reservation stand (SPC-4, persistent reservations).
-use Rattle.std.specs.Prelude.{ℕ, Bool, false, List, [], ◌∷◌, Option, Some, None, if◌then◌else◌, IsTrue}
+use Rattle.std.specs.Prelude.{ℕ, nat_lt, ◌&&◌, Bool, true, false, List, [], ◌∷◌, Option, Some, None, if◌then◌else◌, IsTrue}
 use Rattle.std.specs.List.{list_any, AllPairs}
 use Rattle.pr_words.specs.declared.nexus.Nexus.{Nexus}
 use Rattle.pr_words.specs.declared.nexus.Pair.{Pair}
 use Rattle.pr_words.specs.declared.reservation.Kind.{Kind}
+use Rattle.pr_words.specs.declared.reservation.Kind.TheVariants.{WriteAll, ExclusiveAll}
 use Rattle.pr_words.specs.declared.reservation.Reservation.{Reservation}
 use Rattle.pr_words.specs.declared.reservation.Reservation.TheVariants.{Free, OfOne, OfAll}
 use Rattle.pr_words.specs.Orders.{same_nexus, comes_before}
@@ -14,6 +15,21 @@ pub record Standing : Type 0 where
   pub reservation : Reservation
   pub generation : ℕ
   pub preserve : Bool
+
+-- what outlives a power loss: nothing, or registrations and the reservation (SPC-4, preserving persistent reservations)
+pub data Kept : Type 0 where
+  Nothing : Kept
+  Some_kept : (pairs : List Pair) → (reservation : Reservation) → Kept
+
+-- target ports are 1 to 16
+abbrev pub is_port : ℕ → Bool
+is_port port = nat_lt 0 port && nat_lt port 17
+
+-- the all registrants types
+abbrev pub is_all : Kind → Bool
+is_all WriteAll = true
+is_all ExclusiveAll = true
+is_all _ = false
 
 -- the registration of a nexus
 abbrev pub is_at : Nexus → Pair → Bool

@@ -10,11 +10,13 @@ ghost use Rattle.pr_grammar.specs.Operations.{row_of, operation_at, length_of, g
 ghost use Rattle.pr_grammar.specs.Laws.{Becomes, NeverBecomes};
 
 mod cdb;
+mod file;
 mod operation;
 mod param;
 mod sense;
 
 pub use cdb::{Cdb, CdbFault, Class, Command};
+pub use file::FileLayout;
 pub use operation::OperationCode;
 pub use param::{Capabilities, FullEntry, Held, OutList, ParamFault, ReplyFault};
 pub use sense::SenseFault;

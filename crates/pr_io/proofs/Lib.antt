@@ -2,3 +2,5 @@ mod Ahead
 pub mod Pieces
 mod Placing
 pub mod Sent
+pub mod Spanning
+pub mod Recording

@@ -3,5 +3,8 @@ pub mod Blocks
 pub mod Calls
 pub mod Causes
 pub mod Contents
+pub mod DiskCalls
+pub mod Images
+pub mod Spans
 pub mod Streams
 pub mod Told

@@ -7,20 +7,31 @@
 
 mod blocks;
 mod calls;
+mod disk_call;
 mod faults;
+mod file_disk;
+mod fresh;
+mod mem_disk;
 mod memory;
 mod outside;
+mod putting;
 mod reading;
 mod standard;
 mod sure;
 mod writing;
 
+pub use file_disk::FileDisk;
+pub use fresh::{DISK, FRESH_HEAD};
+pub use mem_disk::MemDisk;
 pub use memory::{MemMedium, MemSink, MemSource};
 pub use outside::{Disk, Failed, Medium, Sink, Source};
+pub use putting::{put, settle};
 pub use reading::read_up_to;
 pub use standard::{StdinSource, StdoutSink};
 pub use sure::{SureDisk, SureMedium, SureSink, SureSource};
 pub use writing::{put_all, put_three, put_two};
 
+#[cfg(test)]
+mod disk_tests;
 #[cfg(test)]
 mod tests;

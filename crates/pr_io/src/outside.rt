@@ -1,6 +1,8 @@
-ghost use Rattle.std.specs.Prelude.{◌≡◌, ◌≤◌, ◌<◌, ◌^◌, ℕ, List, Option, length, IfOk};
+ghost use Rattle.std.specs.Prelude.{◌≡◌, ◌≤◌, ◌<◌, ◌+◌, ◌^◌, ℕ, List, Option, Some, length, IfOk, OnOk};
+ghost use Rattle.pr_io.specs.Blocks.{disk_size};
 ghost use Rattle.pr_io.specs.Causes.{HasCause};
 ghost use Rattle.pr_io.specs.Contents.{ReadsBlock, WritesBlock};
+ghost use Rattle.pr_io.specs.Images.{Image, Story, Reads, Stays, Writes, Syncs};
 ghost use Rattle.pr_io.specs.Streams.{HasEnded, MovesInto, Reaches};
 
 /// The object has failed. Its count of faults shows it; nothing more is known of the cause.
@@ -99,13 +101,59 @@ pub trait Medium {
 }
 
 /// Where registrations outlive a loss of power: 262,144 bytes.
+///
+/// Between two syncs that succeed, a power loss may leave any bytes in each range that was written,
+/// also by a write that failed; bytes elsewhere stay. After a sync that succeeds it leaves what a
+/// read gives. A sync that fails leaves pending what was pending.
 pub trait Disk {
+    /// What the disk tells: what a read gives, a moment, and the images that a power loss may leave
+    /// since a moment.
+    ghost story: { Self → Story };
+
     /// How often the disk has failed.
     ghost faults: { Self → ℕ };
+
+    /// Reads the bytes from a place on. After a failure the buffer may hold anything.
+    ///
+    /// # Errors
+    ///
+    /// Where the disk has failed.
+    fn read_at(&mut self, at: u64, buf: &mut [u8]) -> Result<(), Failed>
+        requires { at + length buf.old ≤ disk_size }
+        ensures bytes { OnOk result (Reads (story self.old).now at buf.new) }
+        ensures stays { Stays (story self.old) (story self.new) }
+        ensures cause { HasCause (faults self.old) (faults self.new) result };
+
+    /// Writes bytes from a place on.
+    ///
+    /// # Errors
+    ///
+    /// Where the disk has failed. The range may then hold anything.
+    fn write_at(&mut self, at: u64, bytes: &[u8]) -> Result<(), Failed>
+        requires { at + length bytes.now ≤ disk_size }
+        ensures writes { Writes result at bytes.now (story self.old) (story self.new) }
+        ensures cause { HasCause (faults self.old) (faults self.new) result };
+
+    /// Waits until no power loss takes away what was written.
+    ///
+    /// # Errors
+    ///
+    /// Where the disk has failed. What was pending is pending still.
+    fn sync(&mut self) -> Result<(), Failed>
+        ensures syncs { Syncs result (story self.old) (story self.new) }
+        ensures cause { HasCause (faults self.old) (faults self.new) result };
 
     /// How often the disk has failed so far. The count stands still at 2^64 - 1.
     fn faults(&self) -> u64
         ensures faults { result ≡ faults self.now };
+
+    /// An image since a moment is one since each moment before it.
+    ghost since: { (d : Self) (t u : ℕ) (c : Image) → t ≤ u → (story d).may u c
+        → (story d).may t c };
+
+    /// What a read gives is one of the images that a power loss now may leave, where these are told.
+    ghost as_read: { (d : Self) (c e : Image) → (story d).now ≡ Some c
+        → (story d).may (story d).moment e → (story d).may (story d).moment c };
 }
 
 impl<S: Source> Source for &mut S {
@@ -153,7 +201,25 @@ impl<M: Medium> Medium for &mut M {
 }
 
 impl<D: Disk> Disk for &mut D {
+    ghost story = { λ d. D.story d.now };
+
     ghost faults = { λ d. D.faults d.now };
+
+    ghost since = { λ d. D.since d.now };
+
+    ghost as_read = { λ d. D.as_read d.now };
+
+    fn read_at(&mut self, at: u64, buf: &mut [u8]) -> Result<(), Failed> {
+        (**self).read_at(at, buf)
+    }
+
+    fn write_at(&mut self, at: u64, bytes: &[u8]) -> Result<(), Failed> {
+        (**self).write_at(at, bytes)
+    }
+
+    fn sync(&mut self) -> Result<(), Failed> {
+        (**self).sync()
+    }
 
     fn faults(&self) -> u64 {
         (**self).faults()

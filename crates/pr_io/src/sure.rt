@@ -1,6 +1,7 @@
 ghost use Rattle.std.specs.Prelude.{◌≡◌, ◌≤◌, ◌<◌, ◌^◌, ◌*◌, ◌/◌, ◌+◌, Some, None, [], length, drop};
 ghost use Rattle.pr_io.specs.Blocks.{AreBlocks, disk_size};
 ghost use Rattle.pr_io.specs.Contents.{block_at};
+ghost use Rattle.pr_io.specs.Images.{image_of};
 
 use crate::blocks::Blocks;
 use crate::{Disk, Failed, Medium, Sink, Source};
@@ -106,7 +107,8 @@ impl Medium for SureMedium {
     }
 }
 
-/// A disk in memory, which never fails.
+/// A disk in memory, which never fails. It keeps no record, so what a power loss may leave isn't
+/// told.
 #[derive(Drop)]
 pub struct SureDisk {
     image: Vec<u8>,
@@ -117,6 +119,7 @@ impl SureDisk {
     /// A disk that holds this image.
     pub fn new(image: Vec<u8>) -> SureDisk
         requires { length image.items ≡ disk_size }
+        ensures now { (⟦<SureDisk as Disk>⟧.story result).now ≡ Some (image_of image.items) }
         ensures faults { ⟦<SureDisk as Disk>⟧.faults result ≡ 0 }
     {
         SureDisk { image }
@@ -124,7 +127,31 @@ impl SureDisk {
 }
 
 impl Disk for SureDisk {
+    ghost use Rattle.pr_io.specs.Images.{read_alone};
+
+    ghost story = { λ d. read_alone d.image.items };
+
     ghost faults = { λ _. 0 };
+
+    ghost since = { λ d t u c le may. may };
+
+    ghost as_read = { λ d c e now may. absurd may };
+
+    fn read_at(&mut self, at: u64, buf: &mut [u8]) -> Result<(), Failed> {
+        let at = at as usize;
+        buf.copy_from_slice(&self.image[at..at + buf.len()]);
+        Ok(())
+    }
+
+    fn write_at(&mut self, at: u64, bytes: &[u8]) -> Result<(), Failed> {
+        let at = at as usize;
+        self.image[at..at + bytes.len()].copy_from_slice(bytes);
+        Ok(())
+    }
+
+    fn sync(&mut self) -> Result<(), Failed> {
+        Ok(())
+    }
 
     fn faults(&self) -> u64 {
         0

@@ -1,16 +1,13 @@
 -- Which histories are legal, and the world after each.
 use Rattle.std.specs.Prelude.{◌≡◌, ℕ, ◌+◌, ◌==◌, ◌&&◌, nat_lt, not, Bool, false, List, [], ◌∷◌, ◌++◌, length, Option, Some, None, is_some, if◌then◌else◌}
 use Rattle.pr_words.specs.declared.nexus.Nexus.{Nexus}
+pub use Rattle.pr_grammar.specs.Standings.{is_port}
 use Rattle.pr_model.specs.Limits.{KNOWN}
 use Rattle.pr_model.specs.Keeping.{Kept}
 use Rattle.pr_model.specs.Worlds.{Blocks, World, opened, set_at, is_known}
 use Rattle.pr_model.specs.Entries.{Act, Login, Command, Step, Logout, Power, Out, Login_code, Left, Restored, Fault, Entry, History}
 use Rattle.pr_model.specs.Commands.{answered}
 use Rattle.pr_model.specs.Steps.{MayStepIn, stepped_in}
-
--- target ports are 1 to 16
-abbrev pub is_port : ℕ → Bool
-is_port port = nat_lt 0 port && nat_lt port 17
 
 -- the first refusal of a login that applies: 4 version, 2 port, 1 in use, 3 full; or 0, accepted
 abbrev pub login_code : World → ℕ → Nexus → ℕ

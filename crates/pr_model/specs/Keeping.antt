@@ -6,11 +6,8 @@ use Rattle.pr_words.specs.declared.reservation.Reservation.{Reservation}
 use Rattle.pr_words.specs.declared.reservation.Reservation.TheVariants.{Free, OfOne, OfAll}
 use Rattle.pr_words.specs.Kinds.{kind_code}
 use Rattle.pr_words.specs.Orders.{same_nexus}
+pub use Rattle.pr_grammar.specs.Standings.{Kept, Nothing, Some_kept}
 use Rattle.pr_grammar.specs.Standings.{Standing, key_of}
-
-pub data Kept : Type 0 where
-  Nothing : Kept
-  Some_kept : (pairs : List Pair) → (reservation : Reservation) → Kept
 
 -- registrations and reservation where the APTPL bit accepted last was one
 abbrev pub kept : Standing → Kept

@@ -3,11 +3,10 @@ use Rattle.std.specs.Prelude.{◌≡◌, ℕ, ◌==◌, ◌<◌, ◌≤◌, not,
 use Rattle.pr_words.specs.declared.nexus.Nexus.{Nexus}
 use Rattle.pr_words.specs.declared.nexus.Pair.{Pair}
 use Rattle.pr_words.specs.declared.reservation.Kind.{Kind}
-use Rattle.pr_words.specs.declared.reservation.Kind.TheVariants.{WriteAll, ExclusiveAll}
 use Rattle.pr_words.specs.declared.reservation.Reservation.{Reservation}
 use Rattle.pr_words.specs.declared.reservation.Reservation.TheVariants.{Free, OfOne, OfAll}
 use Rattle.pr_words.specs.Orders.{comes_before}
-pub use Rattle.pr_grammar.specs.Standings.{IsAscending}
+pub use Rattle.pr_grammar.specs.Standings.{IsAscending, is_all}
 use Rattle.pr_grammar.specs.Standings.{Standing, is_registered}
 
 abbrev pub pair : Nexus → ℕ → Pair
@@ -32,12 +31,6 @@ but_those goes ps = filter (λ p. not (goes p)) ps
 
 abbrev pub just_those : (Pair → Bool) → List Pair → List Pair
 just_those goes ps = filter goes ps
-
--- the all registrants types
-abbrev pub is_all : Kind → Bool
-is_all WriteAll = true
-is_all ExclusiveAll = true
-is_all _ = false
 
 -- a reservation of a type that a nexus takes
 abbrev pub held : Kind → Nexus → Reservation

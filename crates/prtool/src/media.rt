@@ -1,7 +1,9 @@
 ghost use Rattle.std.specs.Prelude.{◌≡◌, ◌≤◌, ◌++◌, ◌*◌, length, drop, IfOk};
 ghost use Rattle.pr_io.specs.Blocks.{disk_size};
-ghost use Rattle.prtool.specs.Images.{AreZero, BeginsWith, file_head};
+ghost use Rattle.pr_grammar.specs.Files.{file_head};
+ghost use Rattle.prtool.specs.Images.{AreZero, BeginsWith};
 
+use pr_io::{DISK, FRESH_HEAD};
 use std::alloc::{AllocError, Global};
 
 /// The bytes of a logical block.
@@ -9,12 +11,6 @@ const BLOCK: usize = 512;
 
 /// The logical blocks of the program's unit.
 const BLOCKS: usize = 2048;
-
-/// The bytes of a registrations' file.
-const DISK: usize = 262_144;
-
-/// How a registrations' file begins: what it is, and the version of its form.
-const HEAD: [u8; 9] = [0x50, 0x52, 0x4B, 0x45, 0x45, 0x50, 0x45, 0x52, 0x01];
 
 /// The unit's blocks, all zero.
 pub(crate) fn zero_blocks(alloc: Global) -> Result<Vec<u8>, AllocError>
@@ -29,7 +25,7 @@ pub(crate) fn fresh_image(alloc: Global) -> Result<Vec<u8>, AllocError>
     ensures size { IfOk result (λ v. length v.items ≡ disk_size) }
     ensures image { IfOk result (λ v. BeginsWith file_head v.items) }
 {
-    beginning_with(alloc, &HEAD, DISK)
+    beginning_with(alloc, &FRESH_HEAD, DISK)
 }
 
 /// So many zeros.
