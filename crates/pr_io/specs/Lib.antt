@@ -5,3 +5,5 @@ pub mod Causes
 pub mod Contents
 pub mod Streams
 pub mod Told
+pub mod Talks
+pub mod Lines

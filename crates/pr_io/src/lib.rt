@@ -10,16 +10,20 @@ mod calls;
 mod faults;
 mod memory;
 mod outside;
+mod peer;
 mod reading;
 mod standard;
 mod sure;
+mod wire;
 mod writing;
 
 pub use memory::{MemMedium, MemSink, MemSource};
 pub use outside::{Disk, Failed, Medium, Sink, Source};
+pub use peer::Peer;
 pub use reading::read_up_to;
 pub use standard::{StdinSource, StdoutSink};
 pub use sure::{SureDisk, SureMedium, SureSink, SureSource};
+pub use wire::Wire;
 pub use writing::{put_all, put_three, put_two};
 
 #[cfg(test)]
