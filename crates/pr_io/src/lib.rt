@@ -14,6 +14,7 @@ mod peer;
 mod reading;
 mod standard;
 mod sure;
+mod tcp_wire;
 mod wire;
 mod writing;
 
@@ -23,8 +24,11 @@ pub use peer::Peer;
 pub use reading::read_up_to;
 pub use standard::{StdinSource, StdoutSink};
 pub use sure::{SureDisk, SureMedium, SureSink, SureSource};
+pub use tcp_wire::TcpWire;
 pub use wire::Wire;
 pub use writing::{put_all, put_three, put_two};
 
 #[cfg(test)]
 mod tests;
+#[cfg(test)]
+mod wire_tests;
