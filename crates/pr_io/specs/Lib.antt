@@ -8,3 +8,5 @@ pub mod Images
 pub mod Spans
 pub mod Streams
 pub mod Told
+pub mod Talks
+pub mod Lines

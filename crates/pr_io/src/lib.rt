@@ -15,9 +15,12 @@ mod mem_disk;
 mod memory;
 mod outside;
 mod putting;
+mod peer;
 mod reading;
 mod standard;
 mod sure;
+mod tcp_wire;
+mod wire;
 mod writing;
 
 pub use file_disk::FileDisk;
@@ -26,12 +29,17 @@ pub use mem_disk::MemDisk;
 pub use memory::{MemMedium, MemSink, MemSource};
 pub use outside::{Disk, Failed, Medium, Sink, Source};
 pub use putting::{put, settle};
+pub use peer::Peer;
 pub use reading::read_up_to;
 pub use standard::{StdinSource, StdoutSink};
 pub use sure::{SureDisk, SureMedium, SureSink, SureSource};
+pub use tcp_wire::TcpWire;
+pub use wire::Wire;
 pub use writing::{put_all, put_three, put_two};
 
 #[cfg(test)]
 mod disk_tests;
 #[cfg(test)]
 mod tests;
+#[cfg(test)]
+mod wire_tests;

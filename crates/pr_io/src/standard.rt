@@ -155,7 +155,11 @@ impl<W: Write + Drop> Sink for StdoutSink<W> {
 }
 
 /// One read, made again where a signal interrupts it.
-fn read_some<R: Read>(reader: &mut R, buf: &mut [u8], faults: &mut Faults) -> Result<usize, Failed>
+pub(crate) fn read_some<R: Read>(
+    reader: &mut R,
+    buf: &mut [u8],
+    faults: &mut Faults,
+) -> Result<usize, Failed>
     ensures count { IfOk result (λ n. n ≤ length buf.old) }
     ensures told { ReadConsumes (R.remaining reader.old) (R.remaining reader.new) result buf.new }
     ensures cause { HasCause faults.old.count faults.new.count result }
