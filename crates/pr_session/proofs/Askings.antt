@@ -24,7 +24,7 @@ use Rattle.pr_session.specs.declared.state.State.TheVariants.{Asking}
 use Rattle.pr_session.specs.declared.session.Session.{Session}
 use Rattle.pr_session.specs.declared.asked.Asked.{Asked}
 use Rattle.pr_session.specs.declared.asked.Asked.TheVariants.{Login, Command, Logout, Reject}
-use Rattle.pr_session.specs.Acts.{act_of, IsShort}
+use Rattle.pr_session.specs.Acts.{act_of, IsShort, Ends}
 use Rattle.pr_session.specs.Asking.{nexus_in, act_in, want_of, next_by}
 use Rattle.pr_session.specs.States.{next_at}
 use Rattle.pr_session.specs.Sessions.{work_of}
@@ -33,7 +33,7 @@ use Rattle.pr_session.specs.Turning.{IsAsked, IsFor, Begins}
 pub login_next : (head : Frame) (body : List ℕ) (n : Nexus) (version : ℕ) (held : List ℕ) (place : ℕ) → n ≡ login_nexus body → (out : Out) → next_by (Login head n version) held place out ≡ after_login (frame_of head body) held place out
 login_next head body n version held place is (Login_code code) = ap (λ (m : Nexus). turned (lane held (phase_after_login m code) place) (replied (frame_of head body) 0x81 (login_reply code))) is
 login_next head body n version held place is (Ended status sense data_in) = refl
-login_next head body n version held place is Started = refl
+login_next head body n version held place is (Started way) = refl
 login_next head body n version held place is Wrote = refl
 login_next head body n version held place is (Read block) = refl
 login_next head body n version held place is Done = refl
@@ -42,21 +42,21 @@ login_next head body n version held place is (Fault code) = refl
 login_next head body n version held place is Left = refl
 login_next head body n version held place is (Restored value) = refl
 
-pub command_next : (head : Frame) (body : List ℕ) (n : Nexus) (cdb : List ℕ) (sent : ℕ) (held : List ℕ) (place : ℕ) (out : Out) → next_by (Command head n cdb sent) held place out ≡ after_command n (frame_of head body) held place out
-command_next head body n cdb sent held place (Login_code code) = refl
-command_next head body n cdb sent held place (Ended status sense data_in) = refl
-command_next head body n cdb sent held place Started = refl
-command_next head body n cdb sent held place Wrote = refl
-command_next head body n cdb sent held place (Read block) = refl
-command_next head body n cdb sent held place Done = refl
-command_next head body n cdb sent held place Aborted = refl
-command_next head body n cdb sent held place (Fault code) = refl
-command_next head body n cdb sent held place Left = refl
-command_next head body n cdb sent held place (Restored value) = refl
+pub command_next : (head : Frame) (body : List ℕ) (n : Nexus) (cdb : List ℕ) (sent : ℕ) (held : List ℕ) (place : ℕ) (out : Out) → Ends out → next_by (Command head n cdb sent) held place out ≡ after_command n (frame_of head body) held place out
+command_next head body n cdb sent held place (Login_code code) ends = refl
+command_next head body n cdb sent held place (Ended status sense data_in) ends = refl
+command_next head body n cdb sent held place (Started way) ends = absurd ends
+command_next head body n cdb sent held place Wrote ends = refl
+command_next head body n cdb sent held place (Read block) ends = refl
+command_next head body n cdb sent held place Done ends = refl
+command_next head body n cdb sent held place Aborted ends = refl
+command_next head body n cdb sent held place (Fault code) ends = refl
+command_next head body n cdb sent held place Left ends = refl
+command_next head body n cdb sent held place (Restored value) ends = refl
 
 -- an act that was asked for
 pub asks : (from : Phase) (n : Nexus) (a : entries.Act) (follows : Out → Turned) (w : Want) (s : Session) (what : Asked) → s.state ≡ Asking what → w ≡ want_of what → nexus_in what ≡ n → act_of (act_in what) (work_of s) ≡ a → IsShort (act_in what) → IsFor from n (act_in what)
-    → ((out : Out) → next_by what (held_of s.deframer) (place_of s.deframer) out ≡ follows out) → IsAsked from n a follows w s
+    → ((out : Out) → Ends out → next_by what (held_of s.deframer) (place_of s.deframer) out ≡ follows out) → IsAsked from n a follows w s
 asks from n a follows w s what state want nexus act short is_for next =
     record {
       what = what;
@@ -66,24 +66,25 @@ asks from n a follows w s what state want nexus act short is_for next =
       act = act;
       short = short;
       phase = is_for;
-      next = λ out. ap (λ (t : State). next_at t (held_of s.deframer) (place_of s.deframer) out) state ∙ next out;
+      next = λ out ends. ap (λ (t : State). next_at t (held_of s.deframer) (place_of s.deframer) out) state ∙ next out ends;
     }
 
 -- a frame that breaks a rule where a nexus is logged in
 pub refused : (l : Lane) (n : Nexus) (r : Rejection) (w : Want) (s : Session) (from : Phase) → l.phase ≡ from → from ≡ In n → s.state ≡ Asking (Reject n r) → w ≡ want_of (Reject n r) → Begins l (broken from r.place r.reason) w s
 refused l n r w s from same is state want =
     subst (λ (p : Phase). l.phase ≡ p → Begins l (broken p r.place r.reason) w s) (sym is)
-    (λ in_n. subst (λ (p : Phase). IsAsked p n entries.Logout (λ _. rejected r.reason r.place) w s) (sym in_n) (asks (In n) n entries.Logout (λ _. rejected r.reason r.place) w s (Reject n r) state want refl refl tt refl (λ out. refl))) same
+    (λ in_n. subst (λ (p : Phase). IsAsked p n entries.Logout (λ _. rejected r.reason r.place) w s) (sym in_n) (asks (In n) n entries.Logout (λ _. rejected r.reason r.place) w s (Reject n r) state want refl refl tt refl (λ out ends. refl))) same
 
 -- a Logout of a nexus that is logged in
 pub left : (l : Lane) (n : Nexus) (head : Frame) (body : List ℕ) (w : Want) (s : Session) → l.phase ≡ In n → s.state ≡ Asking (Logout head n) → w ≡ want_of (Logout head n) → IsAsked l.phase n entries.Logout (λ _. after_logout (frame_of head body)) w s
 left l n head body w s in_n state want =
     subst (λ (p : Phase). IsAsked p n entries.Logout (λ _. after_logout (frame_of head body)) w s) (sym in_n)
-    (asks (In n) n entries.Logout (λ _. after_logout (frame_of head body)) w s (Logout head n) state want refl refl tt refl (λ out. refl))
+    (asks (In n) n entries.Logout (λ _. after_logout (frame_of head body)) w s (Logout head n) state want refl refl tt refl (λ out ends. refl))
 
 -- what a frame asks for, by the request that it carries
 abbrev pub asked_by : Phase → ℕ → frames.Frame → List ℕ → Request → Turn
 asked_by lanes.Dead place f rest r = Idle
+asked_by (lanes.Busy n j) place f rest r = Idle
 asked_by Fresh place f rest (requests.Login version n) = Asks n (entries.Login version) (after_login f rest (place_after place f))
 asked_by Fresh place f rest r = broken Fresh place 5
 asked_by (In n) place f rest (requests.Command cdb sent) = Asks n (entries.Command f.lun cdb (command_data f.body)) (after_command n f rest (place_after place f))
@@ -101,6 +102,7 @@ asked_of kind p place lun tag body rest = asked p place (frame kind lun tag body
 
 by_phase : (p : Phase) (place lun tag : ℕ) (body rest : List ℕ) → asked_of 1 p place lun tag body rest × asked_of 2 p place lun tag body rest × asked_of 3 p place lun tag body rest
 by_phase lanes.Dead place lun tag body rest = (refl, refl, refl)
+by_phase (lanes.Busy n j) place lun tag body rest = (refl, refl, refl)
 by_phase Fresh place lun tag body rest = (refl, refl, refl)
 by_phase (In n) place lun tag body rest = (refl, refl, refl)
 

@@ -27,7 +27,7 @@ use Rattle.pr_session.specs.declared.asked.Asked.{Asked}
 use Rattle.pr_session.specs.declared.asked.Asked.TheVariants as asked
 use Rattle.pr_session.specs.declared.state.State.{State}
 use Rattle.pr_session.specs.declared.session.Session.{Session}
-use Rattle.pr_session.specs.Acts.{act_of, outcome_of, Fits, IsOwner, Owns}
+use Rattle.pr_session.specs.Acts.{act_of, outcome_of, Fits, IsOwner, Owns, Ends}
 use Rattle.pr_session.specs.Asking.{nexus_in, act_in, want_of, next_by}
 use Rattle.pr_session.specs.States.{next_at}
 use Rattle.pr_session.specs.Sessions.{HasTurned, next_of, work_of, lane_of, reply_of}
@@ -52,6 +52,14 @@ never_awaits lanes.Fresh (Whole f rest) n a is = is
 never_awaits (lanes.In m) (Lacking k) n a is = absurd cc
 never_awaits (lanes.In m) (Broken r) n a is = is
 never_awaits (lanes.In m) (Whole f rest) n a is = is
+never_awaits (lanes.Busy m j) (Lacking k) n a is = absurd cc
+never_awaits (lanes.Busy m j) (Broken r) n a is = is
+never_awaits (lanes.Busy m j) (Whole f rest) n a is = is
+
+ends_of : (result : Out) (work : List ℕ) → Ends (outcome_of result work)
+ends_of (outs.Login code) work = tt
+ends_of (outs.Command (answers.Ended status sense len)) work = tt
+ends_of outs.Logout work = tt
 
 never_dead : (n : Nexus) (a : Act) → want.Act n a ≡ want.Dead → ⊥
 never_dead n a is = absurd cc
@@ -72,7 +80,7 @@ drives who old new l (Asks m act next) n a s1 s2 s3 result b made state stream t
     let out : entries.Out = outcome_of result (work_of s2) in
     let is_nexus : n ≡ m = ap (nexus_or n) b.want ∙ b.nexus in
     let is_act : act_of a (work_of s1) ≡ act = ap (λ (x : Act). act_of x (work_of s1)) (ap act_or b.want) ∙ b.act in
-    let then_is : next_of s2 out ≡ next out = goes_on s1 s2 out state stream ∙ b.next out in
+    let then_is : next_of s2 out ≡ next out = goes_on s1 s2 out state stream ∙ b.next out (ends_of result (work_of s2)) in
     record {
       entries = entry who m act out ∷ [];
       makes = (out, refl, turned.reply ∙ ap (λ (x : Turned). x.reply) then_is, turned.lane ∙ ap (λ (x : Turned). x.lane) then_is);
@@ -88,6 +96,7 @@ login_agrees who new n false owns = tt
 command_agrees : {M D : Type 0} {gm : media.Ghosts M} {gd : disks.Ghosts D} (who : ℕ) (old new : Core M D gm gd) (from : Phase) (n : Nexus) (lun sent : ℕ) (cdb : List ℕ) → IsFor from n (act.Command lun cdb sent) → owner_of new ≡ owner_of old → Agrees from who old → owner_of new n ≡ Some who
 command_agrees who old new lanes.Fresh n lun sent cdb is same agrees = absurd is
 command_agrees who old new lanes.Dead n lun sent cdb is same agrees = absurd is
+command_agrees who old new (lanes.Busy m j) n lun sent cdb is same agrees = absurd is
 command_agrees who old new (lanes.In m) n lun sent cdb is same agrees = ap (λ (owner : Nexus → Option ℕ). owner n) same ∙ ap (owner_of old) (sym is) ∙ agrees
 
 agrees_by : {M D : Type 0} {gm : media.Ghosts M} {gd : disks.Ghosts D} (who : ℕ) (old new : Core M D gm gd) (from : Phase) (what : Asked) (result : Out) (held : List ℕ) (place : ℕ) (work : List ℕ)

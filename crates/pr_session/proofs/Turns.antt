@@ -1,11 +1,14 @@
 -- Which turn a deframer's answer means.
-use Rattle.std.proofs.Common.{◌≡◌, ℕ, ◌∙◌, List, take, refl, ap, sym}
+use Rattle.std.proofs.Common.{◌≡◌, ℕ, ◌∙◌, List, Option, Some, None, take, refl, ap, sym}
+use Rattle.pr_words.specs.declared.nexus.Nexus.{Nexus}
+use Rattle.pr_words.specs.declared.nexus.Side.TheVariants.{Target}
 use Rattle.pr_link.specs.declared.frame.Frame.{Frame}
 use Rattle.pr_link.specs.declared.frame.Got.TheVariants as got
 use Rattle.pr_link.specs.Streams.{Stream, frame_of}
-use Rattle.pr_grammar.specs.Frames.{Front, Lacking, Broken, Whole}
+use Rattle.pr_grammar.specs.Frames.{Front, Lacking, Broken, Whole, front}
 use Rattle.pr_grammar.specs.Frames as frames
-use Rattle.pr_model.specs.Lanes.{Phase, Dead, Idle, broken, asked, turn_at}
+use Rattle.pr_model.specs.Lanes.{Phase, Dead, Idle, broken, asked, turn_at, turn_by}
+use Rattle.pr_session.specs.States.{phase_of, living}
 use Rattle.pr_session.specs.Streams.{Receives}
 
 pub dead_idle : (place : ℕ) (f : Front) → turn_at Dead place f ≡ Idle
@@ -23,3 +26,8 @@ turn_frame phase (Lacking k) old new g place buf at h = absurd h
 turn_frame phase (Broken r) old new g place buf at h = absurd h
 turn_frame phase (Whole f rest) old new g place buf at h =
     ap (λ (x : frames.Frame). asked phase old.place x rest) h.0 ∙ ap (λ (p : ℕ). asked phase p (frame_of g (take g.body buf)) rest) (sym at) ∙ ap (λ (s : Stream). asked phase place (frame_of g (take g.body buf)) s.held) (sym h.1)
+
+-- the turn of a session that lives is that of the frame in front
+pub turn_in_front : (logged_in : Option Nexus) (bytes : List ℕ) (place : ℕ) → turn_by (phase_of (living logged_in)) bytes place ≡ turn_at (phase_of (living logged_in)) place (front Target bytes)
+turn_in_front None bytes place = refl
+turn_in_front (Some n) bytes place = refl

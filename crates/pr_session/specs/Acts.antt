@@ -47,3 +47,8 @@ abbrev pub Owns : Act → Out → (Nexus → Option ℕ) → (Nexus → Option �
 Owns (Login version) (outs.Login code) before now n who = code ≡ 0 → now n ≡ Some who
 Owns (Command lun cdb sent) out before now n who = now ≡ before
 Owns _ out before now n who = Unit {0}
+
+-- an outcome with which a command has ended, or that isn't a command's
+abbrev pub Ends : entries.Out → Type 0
+Ends (entries.Started way) = ⊥
+Ends _ = Unit {0}

@@ -1,7 +1,7 @@
 -- A session and a core that go on together.
 use Rattle.std.specs.Prelude.{◌≡◌, ℕ, List, slice_get, Some}
 use Rattle.pr_model.specs.Entries.{History}
-use Rattle.pr_model.specs.Lanes.{Lane, Phase, Fresh, In, Dead, Turn}
+use Rattle.pr_model.specs.Lanes.{Lane, Phase, Fresh, In, Busy, Dead, Turn}
 use Rattle.pr_model.specs.Runs.{Makes}
 use Rattle.pr_io.specs.declared.outside.Medium as media
 use Rattle.pr_io.specs.declared.outside.Disk as disks
@@ -12,6 +12,7 @@ use Rattle.pr_core.specs.View.{owner_of, Extends}
 abbrev pub Agrees : {M D : Type 0} {gm : media.Ghosts M} {gd : disks.Ghosts D} → Phase → ℕ → Core M D gm gd → Type 0
 Agrees Fresh who c = Unit {0}
 Agrees (In n) who c = owner_of c n ≡ Some who
+Agrees (Busy n j) who c = owner_of c n ≡ Some who
 Agrees Dead who c = Unit {0}
 
 -- the core has each lane's nexus logged in by the number of its place

@@ -16,7 +16,7 @@ use Rattle.pr_session.specs.declared.session.Session.{Session}
 use Rattle.pr_session.specs.declared.state.State.{State}
 use Rattle.pr_session.specs.declared.state.State.TheVariants.{Asking}
 use Rattle.pr_session.specs.declared.asked.Asked.{Asked}
-use Rattle.pr_session.specs.Acts.{act_of, IsShort}
+use Rattle.pr_session.specs.Acts.{act_of, IsShort, Ends}
 use Rattle.pr_session.specs.Asking.{nexus_in, act_in, want_of}
 use Rattle.pr_session.specs.Sessions.{HasTurned, next_of, work_of}
 
@@ -45,7 +45,7 @@ pub record IsAsked (from : Phase) (n : Nexus) (a : entries.Act) (follows : Out �
   pub act : act_of (act_in what) (work_of s) ≡ a
   pub short : IsShort (act_in what)
   pub phase : IsFor from n (act_in what)
-  pub next : (out : Out) → next_of s out ≡ follows out
+  pub next : (out : Out) → Ends out → next_of s out ≡ follows out
 
 -- a turn of the lane for which the session stands is begun: an idle one leaves it as it is, one without an entry is made, which is a Reject's, and else its act is wanted
 abbrev pub Begins : Lane → Turn → Want → Session → Type 0

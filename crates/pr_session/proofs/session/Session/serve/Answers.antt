@@ -10,6 +10,7 @@ use Rattle.pr_link.specs.Streams.{frame_of}
 use Rattle.pr_link.specs.Deframer.{held_of, place_of}
 use Rattle.pr_link.specs.Requests.{request_of}
 use Rattle.pr_session.specs.declared.asked.Asked.TheVariants as what
+use Rattle.pr_session.specs.Acts.{Ends}
 use Rattle.pr_session.specs.Asking.{next_by}
 use Rattle.pr_session.specs.States.{phase_of, living}
 use Rattle.pr_session.specs.Works.{bytes_of}
@@ -52,7 +53,7 @@ returns-in-Command-request c l same =
     let within : c.args.head.body ≤ length work = omega (arith, c.requires.formed.0, c.args.self.now.work.room) in
     let short : sent ≤ 524288 = omega (arith, counted, length-drop 20 body, length-take c.args.head.body work, c.requires.formed.0) in
     let act = ap (λ w. entries.Command lun cdb (take sent (drop 20 (bytes_of w)))) after.ensures.work ∙ ap (entries.Command lun cdb) (data_out work c.args.head.body sent within counted) in
-    let next = λ (out : entries.Out). ap (λ d. next_by (what.Command c.args.head n cdb sent) (held_of d) (place_of d) out) after.ensures.stream ∙ command_next c.args.head body n cdb sent held place out in
+    let next = λ (out : entries.Out) (ends : Ends out). ap (λ d. next_by (what.Command c.args.head n cdb sent) (held_of d) (place_of d) out) after.ensures.stream ∙ command_next c.args.head body n cdb sent held place out ends in
     let wanted = asks (In n) n (entries.Command lun cdb (command_data body)) (after_command n (frame_of c.args.head body) held place) after.result after.new.self (what.Command c.args.head n cdb sent) after.ensures.state after.ensures.want refl act short refl next in
     subst (λ (t : Turn). Begins l t after.result after.new.self) (sym turn) (subst (λ (p : Phase). IsAsked p n (entries.Command lun cdb (command_data body)) (after_command n (frame_of c.args.head body) held place) after.result after.new.self) (sym (same ∙ from)) wanted)
 
