@@ -5,4 +5,5 @@ pub mod Asking
 pub mod States
 pub mod Sessions
 pub mod Turning
+pub mod Feeding
 pub mod Driving

@@ -1,5 +1,5 @@
 -- What a session has reached.
-use Rattle.std.specs.Prelude.{ℕ, List, [], Option, Some, None}
+use Rattle.std.specs.Prelude.{◌≡◌, ℕ, Bool, true, false, List, [], Option, Some, None}
 use Rattle.pr_words.specs.declared.nexus.Nexus.{Nexus}
 use Rattle.pr_model.specs.Entries.{Out}
 use Rattle.pr_model.specs.Lanes as lanes
@@ -12,11 +12,14 @@ use Rattle.pr_session.specs.declared.asked.Asked.TheVariants as asked
 use Rattle.pr_session.specs.Asking.{next_by, rejection_by}
 
 -- no turn is under way
+abbrev pub is_settled : State → Bool
+is_settled Fresh = true
+is_settled (In n) = true
+is_settled (Dead r) = true
+is_settled (Asking a) = false
+
 abbrev pub IsSettledIn : State → Type 0
-IsSettledIn Fresh = Unit {0}
-IsSettledIn (In n) = Unit {0}
-IsSettledIn (Dead r) = Unit {0}
-IsSettledIn (Asking a) = ⊥
+IsSettledIn s = is_settled s ≡ true
 
 -- what a session has reached, where no turn is under way
 abbrev pub phase_of : State → lanes.Phase

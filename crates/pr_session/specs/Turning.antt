@@ -1,9 +1,8 @@
 -- How a session takes the turns of its lane.
-use Rattle.std.specs.Prelude.{◌≡◌, ℕ, ◌-◌, List, [], length, min}
+use Rattle.std.specs.Prelude.{◌≡◌, []}
 use Rattle.pr_words.specs.declared.nexus.Nexus.{Nexus}
 use Rattle.pr_words.specs.declared.nexus.Side.TheVariants.{Target}
 use Rattle.pr_grammar.specs.Frames.{Front, Lacking, Broken, Whole, front}
-use Rattle.pr_words.specs.declared.limits.TheConstants.{HELD}
 use Rattle.pr_model.specs.Entries.{Out}
 use Rattle.pr_model.specs.Entries as entries
 use Rattle.pr_model.specs.Lanes.{Lane, Phase, Turn, Turned, turned, Idle, Silent, Asks}
@@ -57,11 +56,3 @@ Begins l (Asks n a next) w s = IsAsked l.phase n a next w s
 abbrev pub Continues : State → Want → Session → Session → Type 0
 Continues (Asking a) w old new = (w ≡ want_of a) × (new ≡ old)
 Continues _ w old new = Unit {0}
-
--- how many of these bytes a lane takes, where it holds so many at most; a dead one drops all
-abbrev pub fed_at : Phase → List ℕ → List ℕ → ℕ
-fed_at lanes.Dead held bytes = length bytes
-fed_at _ held bytes = min (length bytes) (HELD - length held)
-
-abbrev pub fed : Lane → List ℕ → ℕ
-fed l bytes = fed_at l.phase l.bytes bytes

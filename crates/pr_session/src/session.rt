@@ -16,6 +16,7 @@ ghost use Rattle.pr_core.specs.View.{owner_of, KeepsOthers, Extends};
 ghost use Rattle.pr_link.specs.Streams as streams;
 ghost use Rattle.pr_link.specs.Deframer.{stream_of, held_of, place_of};
 ghost use Rattle.pr_session.specs.Streams.{IsIntact};
+ghost use Rattle.pr_session.specs.Feeding.{fed};
 ghost use Rattle.pr_session.specs.States.{IsSettledIn, phase_of, living, rejection_at, rejection_in};
 ghost use Rattle.pr_session.specs.Acts.{act_of, outcome_of, Fits, IsShort, IsOwner, Owns};
 
@@ -50,7 +51,7 @@ pub struct Session {
 impl Session {
     ghost use Rattle.pr_session.specs.Asking.{want_of};
     ghost use Rattle.pr_session.specs.Sessions.{IsSettled, IsAnswer, lane_of, next_of, work_of, reply_of, room_of, nexus_of, rejection_of, HasTurned, IsKept};
-    ghost use Rattle.pr_session.specs.Turning.{Begins, Continues, fed};
+    ghost use Rattle.pr_session.specs.Turning.{Begins, Continues};
 
     /// A new connection. All memory is taken here: 524,320 bytes for what is held, and as many to
     /// work in.

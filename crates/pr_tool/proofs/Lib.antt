@@ -1,7 +1,3 @@
-pub mod Turns
-pub mod Replying
-pub mod Parts
-pub mod Makings
 pub mod Outputting
 pub mod Running
 pub mod Standing

@@ -13,10 +13,10 @@ use Rattle.pr_io.specs.declared.outside.Medium as media
 use Rattle.pr_io.specs.declared.outside.Disk as disks
 use Rattle.pr_core.specs.declared.target.Core.{Core}
 use Rattle.pr_core.specs.View.{owner_of, KeepsOthers}
-use Rattle.pr_tool.specs.declared.session.Session.{Session}
-use Rattle.pr_tool.specs.Sessions.{lanes_of}
-use Rattle.pr_tool.specs.Sessions as sess
-use Rattle.pr_tool.specs.Following.{Agrees, AllAgree}
+use Rattle.pr_tool.specs.declared.lane.Lane as session
+use Rattle.pr_tool.specs.Lanes.{lanes_of}
+use Rattle.pr_tool.specs.Lanes as sess
+use Rattle.pr_session.specs.Driving.{Agrees, AllAgree}
 use Rattle.pr_tool.specs.Exits.{Ran}
 
 get_set_same : {X : Type 0} (xs : List X) (i : ℕ) (y : X) → i < length xs → slice_get (slice_set xs i y) i ≡ Some y
@@ -71,10 +71,10 @@ below lanes (Arrival lane bytes) valid = valid.0
 below lanes (Step_of lane) valid = valid
 below lanes (Close_of lane) valid = valid
 
-pub session_at : (sessions : List Session) (i : ℕ) (d : Session) → i < length sessions → slice_get (lanes_of sessions) i ≡ Some (sess.lane_of (slice_index_or sessions i d))
+pub session_at : (sessions : List session.Lane) (i : ℕ) (d : session.Lane) → i < length sessions → slice_get (lanes_of sessions) i ≡ Some (sess.lane_of (slice_index_or sessions i d))
 session_at sessions i d within = slice_get-map sess.lane_of sessions i ∙ ap (option_map sess.lane_of) (slice_get-get_or sessions i d within)
 
-pub session_ran : {M D : Type 0} {gm : media.Ghosts M} {gd : disks.Ghosts D} (Acts : Record → Lane → Deed → Lane → Type 0) (r : Record) (sessions : List Session) (i : ℕ) (d t : Session) (old new : Core M D gm gd) (a b : ToldSink)
+pub session_ran : {M D : Type 0} {gm : media.Ghosts M} {gd : disks.Ghosts D} (Acts : Record → Lane → Deed → Lane → Type 0) (r : Record) (sessions : List session.Lane) (i : ℕ) (d t : session.Lane) (old new : Core M D gm gd) (a b : ToldSink)
     → i ≡ lane_of r → i < length sessions → Ran (Acts r) a b old (sess.lane_of (slice_index_or sessions i d)) new (sess.lane_of t)
     → Ran (ActsOn Acts r) a b old (lanes_of sessions) new (lanes_of (slice_set sessions i t))
 session_ran Acts r sessions i d t old new a b at within ran =
@@ -83,7 +83,7 @@ session_ran Acts r sessions i d t old new a b at within ran =
     let same : lanes_of (slice_set sessions i t) ≡ slice_set lanes (lane_of r) (sess.lane_of t) = map-set sess.lane_of sessions i t ∙ ap (λ (k : ℕ). slice_set lanes k (sess.lane_of t)) at in
     subst (λ (last : List Lane). Ran (ActsOn Acts r) a b old lanes new last) (sym same) (ran_on Acts r lanes (sess.lane_of (slice_index_or sessions i d)) (sess.lane_of t) old new a b found ran)
 
-pub session_cut : {M D : Type 0} {gm : media.Ghosts M} {gd : disks.Ghosts D} (Acts : Record → Lane → Deed → Lane → Type 0) (r : Record) (sessions : List Session) (i : ℕ) (d : Session) (old new : Core M D gm gd) (a b : ToldSink)
+pub session_cut : {M D : Type 0} {gm : media.Ghosts M} {gd : disks.Ghosts D} (Acts : Record → Lane → Deed → Lane → Type 0) (r : Record) (sessions : List session.Lane) (i : ℕ) (d : session.Lane) (old new : Core M D gm gd) (a b : ToldSink)
     → i ≡ lane_of r → i < length sessions → ((m : Lane) × Ran (Acts r) a b old (sess.lane_of (slice_index_or sessions i d)) new m)
     → (last : List Lane) × Ran (ActsOn Acts r) a b old (lanes_of sessions) new last
 session_cut Acts r sessions i d old new a b at within cut =
@@ -91,10 +91,10 @@ session_cut Acts r sessions i d old new a b at within cut =
     let found : slice_get lanes (lane_of r) ≡ Some (sess.lane_of (slice_index_or sessions i d)) = ap (slice_get lanes) (sym at) ∙ session_at sessions i d within in
     (slice_set lanes (lane_of r) cut.0, ran_on Acts r lanes (sess.lane_of (slice_index_or sessions i d)) cut.0 old new a b found cut.1)
 
-pub session_agrees : {M D : Type 0} {gm : media.Ghosts M} {gd : disks.Ghosts D} (sessions : List Session) (i : ℕ) (d : Session) (c : Core M D gm gd) → i < length sessions → AllAgree (lanes_of sessions) c → Agrees (sess.lane_of (slice_index_or sessions i d)).phase i c
+pub session_agrees : {M D : Type 0} {gm : media.Ghosts M} {gd : disks.Ghosts D} (sessions : List session.Lane) (i : ℕ) (d : session.Lane) (c : Core M D gm gd) → i < length sessions → AllAgree (lanes_of sessions) c → Agrees (sess.lane_of (slice_index_or sessions i d)).phase i c
 session_agrees sessions i d c within agree = agree i (sess.lane_of (slice_index_or sessions i d)) (session_at sessions i d within)
 
-pub sessions_agree : {M D : Type 0} {gm : media.Ghosts M} {gd : disks.Ghosts D} (sessions : List Session) (i : ℕ) (t : Session) (old new : Core M D gm gd) → i < length sessions
+pub sessions_agree : {M D : Type 0} {gm : media.Ghosts M} {gd : disks.Ghosts D} (sessions : List session.Lane) (i : ℕ) (t : session.Lane) (old new : Core M D gm gd) → i < length sessions
     → AllAgree (lanes_of sessions) old → KeepsOthers i old new → Agrees (sess.lane_of t).phase i new → AllAgree (lanes_of (slice_set sessions i t)) new
 sessions_agree sessions i t old new within agree keeps agrees =
     subst (λ (lanes : List Lane). AllAgree lanes new) (sym (map-set sess.lane_of sessions i t))
@@ -112,6 +112,6 @@ fresh_agree n lanes c is place l found =
     let this : l ≡ fresh = get_replicate n place fresh l (ap (λ (w : List Lane). slice_get w place) (sym is) ∙ found) in
     subst (λ (x : Lane). Agrees x.phase place c) (sym this) tt
 
-pub fresh_more : (sessions : List Session) (n : ℕ) (s : Session) → lanes_of sessions ≡ replicate n fresh → sess.lane_of s ≡ fresh → lanes_of (sessions ++ s ∷ []) ≡ replicate (n + 1) fresh
+pub fresh_more : (sessions : List session.Lane) (n : ℕ) (s : session.Lane) → lanes_of sessions ≡ replicate n fresh → sess.lane_of s ≡ fresh → lanes_of (sessions ++ s ∷ []) ≡ replicate (n + 1) fresh
 fresh_more sessions n s all is =
     map-append sess.lane_of sessions (s ∷ []) ∙ ap (λ (w : List Lane). w ++ sess.lane_of s ∷ []) all ∙ ap (λ (l : Lane). replicate n fresh ++ l ∷ []) is ∙ replicate-append-replicate n 1 fresh

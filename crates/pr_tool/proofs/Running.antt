@@ -7,7 +7,7 @@ use Rattle.pr_io.proofs.Pieces.{put_more, put_nothing}
 use Rattle.pr_grammar.specs.Outputs.{output_of}
 use Rattle.pr_grammar.specs.Schedules.{Arrival}
 use Rattle.pr_model.specs.Limits.{HELD}
-use Rattle.pr_model.specs.Lanes.{Lane, Phase, Fresh, In, Busy, Dead, AwaitsFrame, fresh, arrived, turn}
+use Rattle.pr_model.specs.Lanes.{Lane, lane, Phase, Fresh, In, Busy, Dead, AwaitsFrame, fresh, arrived, turn}
 use Rattle.pr_model.specs.Runs.{Deed, deed, TakesTurn, TakesTurns, CutsTurn, RunsRecord, CutsRecord, closing, Closes}
 use Rattle.pr_model.proofs.Overflow.{MadeRoom, Has_died, Has_room, room_made, takes_more, turns-append, arrived-append, arrived-nil}
 use Rattle.pr_io.specs.declared.outside.Medium as media
@@ -15,11 +15,16 @@ use Rattle.pr_io.specs.declared.outside.Disk as disks
 use Rattle.pr_core.specs.declared.target.Core.{Core}
 use Rattle.pr_core.specs.View.{Extends}
 use Rattle.pr_core.proofs.Entering.{extends_none, extends_append}
-use Rattle.pr_tool.specs.Following.{Agrees, Follows, fed, fed_at}
+use Rattle.pr_link.specs.declared.deframer.Deframer.{Deframer}
+use Rattle.pr_link.specs.Deframer.{held_of, place_of}
+use Rattle.pr_session.specs.declared.session.Session.{Session}
+use Rattle.pr_session.specs.Sessions.{lane_of, IsKept}
+use Rattle.pr_session.specs.Driving.{Agrees, Follows}
+use Rattle.pr_session.specs.Feeding.{fed, fed_at}
 use Rattle.pr_tool.specs.Exits.{Ran}
-use Rattle.pr_tool.specs.declared.session.Phase as sessions
-use Rattle.pr_tool.specs.declared.session.Phase.TheVariants as session
-use Rattle.pr_tool.specs.Phases.{phase_of}
+use Rattle.pr_session.specs.declared.state.State.{State}
+use Rattle.pr_session.specs.declared.state.State.TheVariants as state
+use Rattle.pr_session.specs.States.{phase_of}
 
 -- a turn whose reply was written
 pub turn_ran : {M D : Type 0} {gm : media.Ghosts M} {gd : disks.Ghosts D} (who : ℕ) (old new : Core M D gm gd) (a b : ToldSink) (l m : Lane) (reply : List ℕ) → Follows who old l (turn l) new m reply → Put a.written b.written (output_of who reply) → Ran (TakesTurn who) a b old l new m
@@ -62,10 +67,11 @@ pub turn_room : {M D : Type 0} {gm : media.Ghosts M} {gd : disks.Ghosts D} (who 
 turn_room who old new l m reply f full awaits more some = made_room m more (room_made who l m f.entries reply full awaits f.makes) some
 
 -- a session that lives looks at its frame
-pub awaits_frame : (p : sessions.Phase) → (phase_of p ≡ Dead → ⊥) → AwaitsFrame (phase_of p)
-awaits_frame session.Fresh alive = tt
-awaits_frame (session.In n) alive = tt
-awaits_frame session.Dead alive = absurd (alive refl)
+pub awaits_frame : (p : State) → (phase_of p ≡ Dead → ⊥) → AwaitsFrame (phase_of p)
+awaits_frame state.Fresh alive = tt
+awaits_frame (state.In n) alive = tt
+awaits_frame (state.Dead r) alive = absurd (alive refl)
+awaits_frame (state.Asking a) alive = absurd (alive refl)
 
 -- turns that make room for bytes that arrive
 
@@ -218,3 +224,9 @@ all_behind at bytes = take_all (length bytes - at) (drop at bytes) (omega (arith
 -- a connection that was closed, which writes nothing
 pub closed_ran : {M D : Type 0} {gm : media.Ghosts M} {gd : disks.Ghosts D} (who : ℕ) (old new : Core M D gm gd) (a : ToldSink) (l m : Lane) → Extends old new (closing who l.phase) → m ≡ fresh → Ran (Closes who) a a old l new m
 closed_ran who old new a l m made is = record { entries = closing who l.phase; output = []; acts = (refl, is); extends = made; puts = put_nothing a.written }
+
+-- a session that was kept but for its reply stands for the same lane
+pub kept_lane : (before now : Session) → IsKept before now → lane_of now ≡ lane_of before
+kept_lane before now keeps =
+    ap (λ (t : State). lane (held_of now.deframer) (phase_of t) (place_of now.deframer)) keeps.0
+    ∙ ap (λ (d : Deframer). lane (held_of d) (phase_of before.state) (place_of d)) keeps.1

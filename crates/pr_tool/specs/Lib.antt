@@ -1,7 +1,4 @@
-pub mod Rooms
-pub mod Phases
-pub mod Sessions
-pub mod Following
+pub mod Lanes
 pub mod Statuses
 pub mod Reading
 pub mod Counting

@@ -3,12 +3,11 @@
 
 mod asking;
 mod exit;
-mod heads;
+mod lane;
 mod lines;
 mod output;
 mod replay;
 mod schedule;
-mod session;
 mod show;
 #[cfg(test)]
 mod tests;

@@ -2,15 +2,15 @@ ghost use Rattle.std.specs.Prelude.{◌≡◌, ◌+◌, ◌-◌, ◌≤◌, ◌<
 ghost use Rattle.pr_io.specs.Causes.{HasCause};
 ghost use Rattle.pr_io.specs.Told.{told_sink, told_streams, told};
 ghost use Rattle.pr_grammar.specs.Schedules as schedules;
-ghost use Rattle.pr_model.specs.Limits.{HELD};
 ghost use Rattle.pr_model.specs.Keeping.{Nothing};
 ghost use Rattle.pr_model.specs.Worlds.{Blocks, opened};
-ghost use Rattle.pr_model.specs.Lanes.{Lane, Dead, fresh};
-ghost use Rattle.pr_model.specs.Runs.{TakesTurn, CutsTurn, RunsRecord, CutsRecord, ActsOn};
+ghost use Rattle.pr_model.specs.Lanes.{fresh};
+ghost use Rattle.pr_model.specs.Lanes as model;
+ghost use Rattle.pr_model.specs.Runs.{RunsRecord, CutsRecord, ActsOn};
 ghost use Rattle.pr_core.specs.View.{StandsFor, blocks_of, KeepsOthers};
 ghost use Rattle.pr_tool.specs.Reading.{record_of, IsHeld, Reads};
-ghost use Rattle.pr_tool.specs.Sessions.{lane_of, lanes_of};
-ghost use Rattle.pr_tool.specs.Following.{Agrees, AllAgree, fed};
+ghost use Rattle.pr_tool.specs.Lanes.{lane_of, lanes_of};
+ghost use Rattle.pr_session.specs.Driving.{Agrees, AllAgree};
 ghost use Rattle.pr_tool.specs.Counting.{faults_read};
 ghost use Rattle.pr_tool.specs.Exits.{Ran, RunEnds, Stands, Causes, Decides};
 ghost use Rattle.pr_tool.specs.Stops.{exit_of, RunsOne};
@@ -19,7 +19,7 @@ ghost use Rattle.pr_tool.specs.Asking.{AsksReplay};
 use crate::asking::lanes_asked;
 use crate::exit::Exit;
 use crate::schedule::{End, Record, read_record};
-use crate::session::Session;
+use crate::lane::Lane;
 use pr_core::{Core, Room};
 use pr_io::{Disk, Failed, Medium, Sink, Source};
 use std::alloc::{AllocError, Global};
@@ -30,35 +30,11 @@ const ARRIVAL: usize = 65_535;
 /// The most bytes of a schedule that are looked at.
 const BUDGET: u64 = 1 << 32;
 
-/// One turn of the lane of a number, whose reply is written.
-fn step<K: Sink, M: Medium, D: Disk>(
-    sink: &mut K,
-    core: &mut Core<M, D>,
-    lane: &mut Session,
-    who: u8,
-) -> Result<(), Failed>
-    requires { Agrees (lane_of lane.old).phase who core.old }
-    ensures all { OnOk result (Ran (TakesTurn who) (told_sink K.Sink sink.old)
-        (told_sink K.Sink sink.new)
-        core.old (lane_of lane.old) core.new (lane_of lane.new)) }
-    ensures some { OnErr result (Ran (CutsTurn who) (told_sink K.Sink sink.old)
-        (told_sink K.Sink sink.new)
-        core.old (lane_of lane.old) core.new (lane_of lane.new)) }
-    ensures agrees { Agrees (lane_of lane.new).phase who core.new }
-    ensures others { KeepsOthers who core.old core.new }
-    ensures room { length (lane_of lane.old).bytes ≡ HELD → ((lane_of lane.old).phase ≡ Dead → ⊥) →
-        (more : List ℕ) → 0 < length more → 0 < fed (lane_of lane.new) more }
-    ensures cause { HasCause (K.faults sink.old) (K.faults sink.new) result }
-{
-    lane.turn(core, who as u64);
-    lane.write_reply(sink, who)
-}
-
 /// Bytes arrive on the lane of a number. While not all fit, it takes turns.
 fn arrive<K: Sink, M: Medium, D: Disk>(
     sink: &mut K,
     core: &mut Core<M, D>,
-    lane: &mut Session,
+    lane: &mut Lane,
     who: u8,
     bytes: &[u8],
 ) -> Result<(), Failed>
@@ -66,7 +42,7 @@ fn arrive<K: Sink, M: Medium, D: Disk>(
     ensures all { OnOk result (Ran (RunsRecord (schedules.Arrival who bytes.now))
         (told_sink K.Sink sink.old) (told_sink K.Sink sink.new)
         core.old (lane_of lane.old) core.new (lane_of lane.new)) }
-    ensures some { OnErr result ((m : Lane) × Ran (CutsRecord (schedules.Arrival who bytes.now))
+    ensures some { OnErr result ((m : model.Lane) × Ran (CutsRecord (schedules.Arrival who bytes.now))
         (told_sink K.Sink sink.old) (told_sink K.Sink sink.new) core.old
         (lane_of lane.old) core.new m) }
     ensures agrees { Agrees (lane_of lane.new).phase who core.new }
@@ -75,7 +51,7 @@ fn arrive<K: Sink, M: Medium, D: Disk>(
 {
     let mut at = lane.feed(bytes);
     while at < bytes.len() {
-        step(sink, core, lane, who)?;
+        lane.turn(sink, core, who)?;
         at += lane.feed(&bytes[at..]);
     }
     Ok(())
@@ -85,7 +61,7 @@ fn arrive<K: Sink, M: Medium, D: Disk>(
 fn act<K: Sink, M: Medium, D: Disk>(
     sink: &mut K,
     core: &mut Core<M, D>,
-    lane: &mut Session,
+    lane: &mut Lane,
     found: Record,
     body: &[u8],
 ) -> Result<(), Failed>
@@ -96,7 +72,7 @@ fn act<K: Sink, M: Medium, D: Disk>(
     ensures all { OnOk result (Ran (RunsRecord (record_of found body.now))
         (told_sink K.Sink sink.old) (told_sink K.Sink sink.new)
         core.old (lane_of lane.old) core.new (lane_of lane.new)) }
-    ensures some { OnErr result ((m : Lane) × Ran (CutsRecord (record_of found body.now))
+    ensures some { OnErr result ((m : model.Lane) × Ran (CutsRecord (record_of found body.now))
         (told_sink K.Sink sink.old) (told_sink K.Sink sink.new) core.old
         (lane_of lane.old) core.new m) }
     ensures agrees { Agrees (lane_of lane.new).phase
@@ -106,7 +82,7 @@ fn act<K: Sink, M: Medium, D: Disk>(
 {
     match found {
         Record::Arrival { lane: who, len } => arrive(sink, core, lane, who, &body[..len]),
-        Record::Step { lane: who } => step(sink, core, lane, who),
+        Record::Step { lane: who } => lane.turn(sink, core, who),
         Record::Close { lane: who } => {
             lane.close(core, who as u64);
             Ok(())
@@ -118,7 +94,7 @@ fn act<K: Sink, M: Medium, D: Disk>(
 fn act_on<K: Sink, M: Medium, D: Disk>(
     sink: &mut K,
     core: &mut Core<M, D>,
-    lanes: &mut [Session],
+    lanes: &mut [Lane],
     found: Record,
     body: &[u8],
 ) -> Result<(), Failed>
@@ -129,7 +105,7 @@ fn act_on<K: Sink, M: Medium, D: Disk>(
     ensures all { OnOk result (Ran (ActsOn RunsRecord (record_of found body.now))
         (told_sink K.Sink sink.old) (told_sink K.Sink sink.new)
         core.old (lanes_of lanes.old) core.new (lanes_of lanes.new)) }
-    ensures some { OnErr result ((last : List Lane)
+    ensures some { OnErr result ((last : List model.Lane)
         × Ran (ActsOn CutsRecord (record_of found body.now))
         (told_sink K.Sink sink.old) (told_sink K.Sink sink.new) core.old
         (lanes_of lanes.old) core.new last) }
@@ -197,7 +173,7 @@ fn run_one<S: Source, K: Sink, M: Medium, D: Disk>(
     source: &mut S,
     sink: &mut K,
     core: &mut Core<M, D>,
-    lanes: &mut [Session],
+    lanes: &mut [Lane],
     left: u64,
     body: &mut Vec<u8>,
 ) -> Result<u64, Stop>
@@ -227,7 +203,7 @@ fn run<S: Source, K: Sink, M: Medium, D: Disk>(
     source: &mut S,
     sink: &mut K,
     core: &mut Core<M, D>,
-    lanes: &mut [Session],
+    lanes: &mut [Lane],
     body: &mut Vec<u8>,
     budget: u64,
 ) -> Exit
@@ -251,13 +227,13 @@ fn run<S: Source, K: Sink, M: Medium, D: Disk>(
 }
 
 /// So many new connections.
-fn fresh_lanes(alloc: Global, count: usize) -> Result<Vec<Session>, AllocError>
+fn fresh_lanes(alloc: Global, count: usize) -> Result<Vec<Lane>, AllocError>
     ensures fresh { IfOk result (λ s. lanes_of s.items ≡ replicate count fresh) }
     ensures count { IfOk result (λ s. vec_len s ≡ count) }
 {
     let mut lanes = Vec::with_capacity(alloc, count)?;
     while lanes.len() < count {
-        lanes.push(Session::new(alloc)?)?;
+        lanes.push(Lane::new(alloc)?)?;
     }
     Ok(lanes)
 }

@@ -7,7 +7,7 @@ use Rattle.pr_model.specs.Runs.{RunsRecord, CutsRecord}
 use Rattle.pr_io.specs.Told.{told_sink}
 use Rattle.pr_tool.specs.Exits.{Ran}
 use Rattle.pr_tool.specs.Reading.{record_of}
-use Rattle.pr_tool.specs.Sessions.{lane_of}
+use Rattle.pr_tool.specs.Lanes.{lane_of}
 use Rattle.pr_tool.proofs.Running.{closed_ran}
 use Rattle.pr_tool.proofs.replay.act.Goals as goal
 
@@ -19,13 +19,13 @@ returns-in-Arrival-clause-some g c =
 pub returns-in-Step-clause-all : goal.returns-in-Step-clause-all
 returns-in-Step-clause-all g c =
     let is : record_of c.args.found c.args.body.now ≡ Step_of c.in-Step.who = ap (λ f. record_of f c.args.body.now) c.in-Step.is in
-    subst (λ (r : Record). OnOk c.step.result (Ran (RunsRecord r) (told_sink g.K.Sink c.args.sink.now) (told_sink g.K.Sink c.step.new.sink) c.args.core.now (lane_of c.args.lane.now) c.step.new.core (lane_of c.step.new.lane))) (sym is) c.step.ensures.all
+    subst (λ (r : Record). OnOk c.turn.result (Ran (RunsRecord r) (told_sink g.K.Sink c.args.sink.now) (told_sink g.K.Sink c.turn.new.sink) c.args.core.now (lane_of c.args.lane.now) c.turn.new.core (lane_of c.turn.new.self))) (sym is) c.turn.ensures.all
 
 pub returns-in-Step-clause-some : goal.returns-in-Step-clause-some
 returns-in-Step-clause-some g c =
     let is : record_of c.args.found c.args.body.now ≡ Step_of c.in-Step.who = ap (λ f. record_of f c.args.body.now) c.in-Step.is in
-    subst (λ (r : Record). OnErr c.step.result ((m : Lane) × Ran (CutsRecord r) (told_sink g.K.Sink c.args.sink.now) (told_sink g.K.Sink c.step.new.sink) c.args.core.now (lane_of c.args.lane.now) c.step.new.core m)) (sym is)
-    (on_err c.step.result (λ p. (lane_of c.step.new.lane, p)) c.step.ensures.some)
+    subst (λ (r : Record). OnErr c.turn.result ((m : Lane) × Ran (CutsRecord r) (told_sink g.K.Sink c.args.sink.now) (told_sink g.K.Sink c.turn.new.sink) c.args.core.now (lane_of c.args.lane.now) c.turn.new.core m)) (sym is)
+    (on_err c.turn.result (λ p. (lane_of c.turn.new.self, p)) c.turn.ensures.some)
 
 pub returns-in-Close-clause-all : goal.returns-in-Close-clause-all
 returns-in-Close-clause-all g c =

@@ -5,9 +5,9 @@ use Rattle.pr_grammar.specs.Schedules as schedules
 use Rattle.pr_io.proofs.Sent.{on_ok, on_err}
 use Rattle.pr_model.specs.Runs.{RunsRecord, CutsRecord}
 use Rattle.pr_core.specs.View.{KeepsOthers}
-use Rattle.pr_tool.specs.Following.{Agrees}
+use Rattle.pr_session.specs.Driving.{Agrees}
 use Rattle.pr_tool.specs.Reading.{record_of}
-use Rattle.pr_tool.specs.Sessions.{lane_of}
+use Rattle.pr_tool.specs.Lanes.{lane_of}
 use Rattle.pr_tool.proofs.Places.{below, session_agrees, session_ran, session_cut, sessions_agree}
 use Rattle.pr_tool.proofs.replay.act_on.Goals as goal
 

@@ -3,9 +3,9 @@ use Rattle.pr_model.specs.Limits.{HELD}
 use Rattle.pr_model.specs.Lanes.{Dead, arrived}
 use Rattle.pr_core.specs.View.{KeepsOthers}
 use Rattle.pr_io.specs.Told.{told_sink}
-use Rattle.pr_tool.specs.Following.{Agrees}
+use Rattle.pr_session.specs.Driving.{Agrees}
 use Rattle.pr_tool.specs.Exits.{Ran}
-use Rattle.pr_tool.specs.Sessions.{lane_of}
+use Rattle.pr_tool.specs.Lanes.{lane_of}
 use Rattle.pr_tool.proofs.Running.{Makes_room}
 use Rattle.pr_tool.proofs.replay.arrive.Given as goal
 

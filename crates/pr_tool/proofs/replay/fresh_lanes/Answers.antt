@@ -8,6 +8,6 @@ loop-alloc-preserved c =
     let items = c.in_ok-push.ensures.items in
     let len : vec_len c.push.new.self ≡ vec_len old + 1 = c.in_ok-push.ensures.len in
     record {
-      fresh = rw (items, len) (fresh_more old.items (vec_len old) c.in_ok-new.field-0 c.loop-alloc.invariant.fresh c.in_ok-new.ensures.lane);
+      fresh = rw (items, len) (fresh_more old.items (vec_len old) c.in_ok-new.field-0 c.loop-alloc.invariant.fresh c.in_ok-new.ensures);
       within = omega (arith, len, c.len.ensures, c.loop-alloc-test.true);
     }

@@ -1,6 +1,6 @@
 use Rattle.std.proofs.Common.{◌≡◌, ◌-◌, ◌≤◌, replicate, vec_len}
 use Rattle.pr_model.specs.Lanes.{fresh}
-use Rattle.pr_tool.specs.Sessions.{lanes_of}
+use Rattle.pr_tool.specs.Lanes.{lanes_of}
 use Rattle.pr_tool.proofs.replay.fresh_lanes.Given as goal
 
 abbrev pub invariant-loop-alloc : goal.invariant-loop-alloc

@@ -4,7 +4,7 @@ use Rattle.pr_io.specs.Told.{told_streams}
 use Rattle.pr_tool.specs.declared.exit.Exit.{Exit}
 use Rattle.pr_tool.specs.Exits.{RunEnds, Causes}
 use Rattle.pr_tool.specs.Stops.{Did, StopsBy}
-use Rattle.pr_tool.specs.Sessions.{lanes_of}
+use Rattle.pr_tool.specs.Lanes.{lanes_of}
 use Rattle.pr_tool.proofs.Standing.{run_first, run_more, run_stops, told_first, told_more, run_causes}
 use Rattle.pr_tool.proofs.Places.{fresh_agree}
 use Rattle.pr_tool.proofs.replay.run.Goals as goal

@@ -1,9 +1,9 @@
 use Rattle.std.proofs.Common.{◌≡◌, ◌≤◌, ◌-◌, length, vec_len}
 use Rattle.pr_core.specs.View.{blocks_of}
 use Rattle.pr_io.specs.Told.{told_streams}
-use Rattle.pr_tool.specs.Following.{AllAgree}
+use Rattle.pr_session.specs.Driving.{AllAgree}
 use Rattle.pr_tool.specs.Exits.{GoesOn}
-use Rattle.pr_tool.specs.Sessions.{lanes_of}
+use Rattle.pr_tool.specs.Lanes.{lanes_of}
 use Rattle.pr_tool.proofs.Standing.{CarriesTold}
 use Rattle.pr_tool.proofs.replay.run.Given as goal
 
