@@ -2,7 +2,6 @@
 
 ghost use Rattle.std.specs.Prelude.{◌≡◌, ◌+◌, ◌*◌, ◌≤◌, ◌++◌, ◌∷◌, [], true, length, vec_len, vec_capacity, codes, decimal};
 ghost use Rattle.pr_words.specs.declared.nexus.Side.TheVariants.{Target};
-ghost use Rattle.pr_grammar.specs.Bodies.{is_login_body, is_command_body, login_version, login_nexus, command_cdb, command_data};
 ghost use Rattle.pr_grammar.specs.Cdbs.{operation_code};
 ghost use Rattle.pr_grammar.specs.Frames.{is_body};
 ghost use Rattle.pr_grammar.specs.Shows.{hex_text, login_line, command_line, logout_line, line_of, line_feed};
@@ -10,8 +9,8 @@ ghost use Rattle.pr_link.specs.Streams.{frame_of};
 ghost use Rattle.std.specs.Int.{w64, to_be_bytes};
 
 use itoa::Buffer;
-use pr_link::Frame;
-use pr_words::{get_u16, get_u64};
+use pr_link::{Frame, RawCdb, Request};
+use pr_words::Nexus;
 
 /// The most bytes of one line.
 pub(crate) const LINE: usize = 128;
@@ -85,39 +84,34 @@ fn push_field(text: &mut Vec<u8>, word: &[u8], number: u64)
     push_decimal(text, number);
 }
 
-/// Writes the line of a Login with this body.
-fn push_login(text: &mut Vec<u8>, tag: u32, body: &[u8])
-    requires room { vec_len text.old + 128 ≤ vec_capacity text.old }
-    requires body { is_login_body body.now ≡ true }
-    ensures items { text.new.items ≡
-        text.old.items ++ login_line tag (login_version body.now) (login_nexus body.now) }
+/// Writes the line of a Login.
+fn push_login(text: &mut Vec<u8>, tag: u32, version: u8, nexus: Nexus)
+    requires { vec_len text.old + 128 ≤ vec_capacity text.old }
+    ensures items { text.new.items ≡ text.old.items ++ login_line tag version nexus }
     ensures len { vec_len text.new ≤ vec_len text.old + 128 }
     ensures room { vec_capacity text.old ≤ vec_capacity text.new }
 {
     push_field(text, b"login tag=", u64::from(tag));
-    push_field(text, b" version=", u64::from(body[0]));
-    push_field(text, b" port=", u64::from(get_u16(body, 2)));
+    push_field(text, b" version=", u64::from(version));
+    push_field(text, b" port=", u64::from(nexus.port));
     push(text, b" name=");
-    push_name(text, get_u64(body, 4));
+    push_name(text, nexus.name);
     push(text, b"\n");
 }
 
-/// Writes the line of a Command with this body.
-fn push_command(text: &mut Vec<u8>, lun: u16, tag: u32, body: &[u8])
-    requires room { vec_len text.old + 128 ≤ vec_capacity text.old }
-    requires body { is_command_body body.now ≡ true }
+/// Writes the line of a Command with this CDB and so many bytes of data-out.
+fn push_command(text: &mut Vec<u8>, lun: u16, tag: u32, cdb: &RawCdb, data_out: usize)
+    requires { vec_len text.old + 128 ≤ vec_capacity text.old }
     ensures items { text.new.items ≡
-        text.old.items ++ command_line tag lun (operation_code (command_cdb body.now))
-        (length (command_data body.now)) }
+        text.old.items ++ command_line tag lun (operation_code cdb.now) data_out }
     ensures len { vec_len text.new ≤ vec_len text.old + 128 }
     ensures room { vec_capacity text.old ≤ vec_capacity text.new }
 {
-    let cdb = &body[4..4 + body[0] as usize];
     push_field(text, b"command tag=", u64::from(tag));
     push_field(text, b" lun=", u64::from(lun));
     push(text, b" op=");
-    push_byte(text, cdb[0]);
-    push_field(text, b" out=", (body.len() - 20) as u64);
+    push_byte(text, cdb.bytes()[0]);
+    push_field(text, b" out=", data_out as u64);
     push(text, b"\n");
 }
 
@@ -140,10 +134,12 @@ pub(crate) fn push_frame(text: &mut Vec<u8>, frame: &Frame, body: &[u8])
     ensures len { vec_len text.new ≤ vec_len text.old + 128 }
     ensures room { vec_capacity text.old ≤ vec_capacity text.new }
 {
-    match frame.kind {
-        0x01 => push_login(text, frame.tag, body),
-        0x02 => push_command(text, frame.lun, frame.tag, body),
-        _ => push_logout(text, frame.tag),
+    match Request::read(frame.kind, body) {
+        Request::Login { version, nexus } => push_login(text, frame.tag, version, nexus),
+        Request::Command { cdb, data_out } => {
+            push_command(text, frame.lun, frame.tag, &cdb, data_out);
+        }
+        Request::Logout => push_logout(text, frame.tag),
     }
 }
 
