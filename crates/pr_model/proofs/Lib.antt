@@ -1,5 +1,6 @@
 pub mod HistoryLaws
 pub mod RunLaws
+pub mod SessionLaws
 pub mod Outputs
 pub mod Overflow
 pub mod Waiting

@@ -15,6 +15,7 @@ pub mod Commands
 pub mod Histories
 pub mod Lanes
 pub mod Runs
+pub mod Sessions
 pub mod Fencing
 pub mod BlockLaws
 pub mod Laws

@@ -15,6 +15,7 @@ ghost use Rattle.pr_model.specs.Effects.{Rule, IsRule, Acts};
 ghost use Rattle.pr_model.specs.Attentions.{is_attention};
 ghost use Rattle.pr_model.specs.Examples.{Transfers, Conflicts, Marks, Steps, Replies};
 ghost use Rattle.pr_model.specs.BlockLaws.{SparedStay, LastDecides};
+ghost use Rattle.pr_model.specs.Sessions.{TurnsJoin};
 ghost use Rattle.pr_model.specs.Laws.{AbortedIsFenced, BytesWait, FreePass, HasOneOutcome, HoldersPass, KeepsSize, LegalIsFenced, OnlyStepsMove, RefusalsChangeLittle, RegistrantsPass};
 ghost use Rattle.pr_model.specs.Keeping.{Kept, kept, same_kept, keeps_by, looks_same, same_reservation};
 
@@ -147,4 +148,9 @@ pub fn worked_examples()
     ensures marks { Marks }
     ensures steps { Steps }
     ensures replies { Replies }
+{}
+
+/// Turns of a session that go on from where others ended are turns from where those began.
+pub fn turns_are_joined()
+    ensures { TurnsJoin }
 {}
