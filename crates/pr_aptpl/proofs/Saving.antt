@@ -48,7 +48,7 @@ module _ (head : List ℕ) (l : FileLayout) (apart : IsApart head l) where
       (λ c admitted. guards_more (restores head l) (place_of l t) (is_in l t) (SlotFacts head l t turn) (gate_covered head l apart t) (facts_stay head l apart t turn) (closed_restores head l apart t turn) (facts_more head l apart t turn) o ks k c (stands c admitted))
       (goes_as s0 s1 _ _ goes (λ c one. in_first ks k (restores head l c) one))
 
-  module _ (t : Bool) (turn : Option ℕ) (gate : ℕ) (at : gate ≡ place_of l t) (ks : List Kept) (s0 s1 : Story) {T1 E1 : Type 0} (r1 : Result T1 E1) (was now : Bool) (closes : Closes r1 gate was now s0 s1)
+  module _ (t : Bool) (turn : Option ℕ) (gate : ℕ) (at : gate ≡ place_of l t) (ks : List Kept) (s0 s1 : Story) {Ta Ea : Type 0} (r1 : Result Ta Ea) (was now : Bool) (closes : Closes r1 gate was now s0 s1)
       (stands0 : Stands head l t turn was s0 ks) where
     closes_at : Closes r1 (place_of l t) was now s0 s1
     closes_at = subst (λ (n : ℕ). Closes r1 n was now s0 s1) at closes
@@ -60,7 +60,7 @@ module _ (head : List ℕ) (l : FileLayout) (apart : IsApart head l) where
     pub after_one : {T E : Type 0} (q : Result T E) (k : Kept) → IsErr q → now ≡ was → Ends q t turn now s0 s1 ks k
     after_one q k err same = failed_early q t turn now s0 s1 ks k err (subst (λ (o : Bool). Stands head l t turn o s1 ks) (sym same) one.0) one.1
 
-    module _ (x1 : T1) (ok1 : r1 ≡ Ok x1) (s2 : Story) {T2 E2 : Type 0} (r2 : Result T2 E2) (body : List ℕ) (small : length body ≤ 15 + 18 * l.limit) (puts : Puts r2 (gate + 1) body s1 s2) where
+    module _ (x1 : Ta) (ok1 : r1 ≡ Ok x1) (s2 : Story) {Tb Eb : Type 0} (r2 : Result Tb Eb) (body : List ℕ) (small : length body ≤ 15 + 18 * l.limit) (puts : Puts r2 (gate + 1) body s1 s2) where
       stands1 : Stands head l t turn false s1 ks
       stands1 = closed (restores head l) (place_of l t) (is_in l t) (SlotFacts head l t turn) (gate_covered head l apart t) (facts_stay head l apart t turn) (closed_restores head l apart t turn) (facts_more head l apart t turn) s0 s1 ks r1 x1 was now ok1 closes_at stands0
 
@@ -75,8 +75,8 @@ module _ (head : List ℕ) (l : FileLayout) (apart : IsApart head l) where
       pub after_two : {T E : Type 0} (q : Result T E) (k : Kept) → IsErr q → now ≡ false → Ends q t turn now s0 s2 ks k
       after_two q k err same = failed_early q t turn now s0 s2 ks k err (subst (λ (o : Bool). Stands head l t turn o s2 ks) (sym same) two.0) (goes_on s0 s1 s2 _ one.1 two.1)
 
-      module _ (x2 : T2) (ok2 : r2 ≡ Ok x2) (s : Standing) (formed : IsWellFormed l.limit s) (ports : HavePorts s.pairs) (fits : s.preserve ≡ true → AreInFields s.pairs) (few : l.limit < 65536)
-          (spelled : 0xA5 ∷ body ≡ spelled_slot (turn_after turn) (kept s)) (s3 : Story) {T3 E3 : Type 0} (r3 : Result T3 E3) (opens : Puts r3 gate (0xA5 ∷ []) s2 s3) where
+      module _ (x2 : Tb) (ok2 : r2 ≡ Ok x2) (s : Standing) (formed : IsWellFormed l.limit s) (ports : HavePorts s.pairs) (fits : s.preserve ≡ true → AreInFields s.pairs) (few : l.limit < 65536)
+          (spelled : 0xA5 ∷ body ≡ spelled_slot (turn_after turn) (kept s)) (s3 : Story) {Tc Ec : Type 0} (r3 : Result Tc Ec) (opens : Puts r3 gate (0xA5 ∷ []) s2 s3) where
         filled : (c : Image) → Admits s2 c → IsFilled l t turn (kept s) c
         filled c admitted =
             let has = IfOk-at_ok _ ok2 puts_at.done in
@@ -97,7 +97,7 @@ module _ (head : List ℕ) (l : FileLayout) (apart : IsApart head l) where
         after_three q err = failed q t turn true s0 s3 ks (kept s) err three.0 moments
 
         -- none failed
-        pub after_all : {T : Type 0} (E : Type 0) (x3 : T3) → r3 ≡ Ok x3 → (x : T) (v : ℕ) → v ≡ turn_after turn → Ends {T = T} {E = E} (Ok x) (not t) (Some v) (is_some turn) s0 s3 ks (kept s)
+        pub after_all : {T : Type 0} (E : Type 0) (x3 : Tc) → r3 ≡ Ok x3 → (x : T) (v : ℕ) → v ≡ turn_after turn → Ends {T = T} {E = E} (Ok x) (not t) (Some v) (is_some turn) s0 s3 ks (kept s)
         after_all E x3 ok3 x v next =
             let stands = subst (λ (n : ℕ). Stands head l (not t) (Some n) (is_some turn) s3 (kept s ∷ [])) (sym next) (swapped head l apart t turn ks (kept s) s2 s3 r3 x3 ok3 opens_at two.0 filled) in
             (moments, restores_of (not t) (Some v) (is_some turn) s3 (kept s ∷ []) stands, stands)

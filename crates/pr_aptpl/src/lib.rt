@@ -12,3 +12,6 @@ mod spelling;
 
 pub use fault::OpenFault;
 pub use keeper::Keeper;
+
+#[cfg(test)]
+mod tests;
