@@ -1,0 +1,10 @@
+pub mod Lists
+pub mod Slots
+pub mod Guarding
+pub mod SlotParts
+pub mod ReadBack
+pub mod Opened
+pub mod Apart
+pub mod Keepable
+pub mod Spelled
+pub mod Saving
