@@ -2,3 +2,6 @@ mod Ahead
 pub mod Pieces
 mod Placing
 pub mod Sent
+pub mod Settings
+pub mod LineLaws
+pub mod Remaining

@@ -7,17 +7,22 @@
 
 mod blocks;
 mod calls;
+mod devices;
 mod faults;
+mod mem_wire;
 mod memory;
 mod outside;
 mod peer;
 mod reading;
+mod recorded;
 mod standard;
 mod sure;
+mod switchboard;
 mod tcp_wire;
 mod wire;
 mod writing;
 
+pub use mem_wire::MemWire;
 pub use memory::{MemMedium, MemSink, MemSource};
 pub use outside::{Disk, Failed, Medium, Sink, Source};
 pub use peer::Peer;
