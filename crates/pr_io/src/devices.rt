@@ -1,6 +1,7 @@
 //! Targets in memory, found by their addresses, each with a peer.
 
 ghost use Rattle.std.specs.Prelude.{◌≡◌, ◌≤◌, ◌<◌, ℕ, length, take, slice_get, IfSome};
+ghost use Rattle.std.specs.String.{string_bytes};
 ghost use Rattle.std.specs.Bool.{OnTrue};
 ghost use Rattle.pr_io.specs.Devices.{AllStand, AllCome, DeviceStands, DeviceComes, changed_at};
 ghost use Rattle.pr_io.specs.Lines.{Line, hearing, saying, hung_up};
@@ -64,9 +65,14 @@ pub(crate) fn has_room_at<P: Peer + Drop>(devices: &Vec<(String, P)>, i: usize, 
 
 /// The place of the device with this address.
 pub(crate) fn place_of<P: Peer + Drop>(devices: &Vec<(String, P)>, address: &str) -> Option<usize>
-    ensures { IfSome result (λ i. i < length devices.now.items) }
+    ensures within { IfSome result (λ i. i < length devices.now.items) }
+    ensures named { IfSome result (λ i. IfSome (slice_get devices.now.items i)
+        (λ d. string_bytes d.0 ≡ address.now)) }
 {
-    devices
-        .iter()
-        .position(|device| device.0.as_str() == address)
+    for (i, device) in devices.iter().enumerate() {
+        if device.0.as_str() == address {
+            return Some(i);
+        }
+    }
+    None
 }

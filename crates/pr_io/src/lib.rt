@@ -15,6 +15,7 @@ mod outside;
 mod peer;
 mod reading;
 mod recorded;
+mod script_peer;
 mod standard;
 mod sure;
 mod switchboard;
@@ -27,6 +28,7 @@ pub use memory::{MemMedium, MemSink, MemSource};
 pub use outside::{Disk, Failed, Medium, Sink, Source};
 pub use peer::Peer;
 pub use reading::read_up_to;
+pub use script_peer::ScriptPeer;
 pub use standard::{StdinSource, StdoutSink};
 pub use sure::{SureDisk, SureMedium, SureSink, SureSource};
 pub use tcp_wire::TcpWire;
@@ -35,5 +37,3 @@ pub use writing::{put_all, put_three, put_two};
 
 #[cfg(test)]
 mod tests;
-#[cfg(test)]
-mod wire_tests;

@@ -5,7 +5,7 @@ ghost use Rattle.pr_io.specs.Causes.{next_fault};
 ghost use Rattle.pr_io.specs.Devices.{AllStand, AllGoOn, DeviceStands, DeviceComes, all_go_on_at_once, all_go_on_later};
 ghost use Rattle.pr_io.specs.Lines.{new_line};
 ghost use Rattle.pr_io.specs.Recordings.{line_of, talk_of, told_of};
-ghost use Rattle.pr_io.specs.Talks.{connection};
+ghost use Rattle.pr_io.specs.Talks.{connection, sent_of};
 
 use crate::calls::Calls;
 use crate::devices::{hang_up_at, has_room_at, hear_at, place_of, say_at};
@@ -48,6 +48,17 @@ impl<P: Peer + Drop> MemWire<P> {
             calls: Calls::new(failing),
             faults: Faults::new(),
             starved: 0,
+        }
+    }
+
+    /// All bytes that were sent on the connection that stands.
+    pub fn sent(&self) -> &[u8]
+        ensures { result.now ≡
+            sent_of (talk_of self.now.earlier.items self.now.current).current }
+    {
+        match &self.current {
+            Some(recorded) => &recorded.sent,
+            None => &[],
         }
     }
 
