@@ -4,3 +4,6 @@ mod Placing
 pub mod Sent
 pub mod Spanning
 pub mod Recording
+pub mod Settings
+pub mod LineLaws
+pub mod Remaining

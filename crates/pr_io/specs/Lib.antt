@@ -10,3 +10,5 @@ pub mod Streams
 pub mod Told
 pub mod Talks
 pub mod Lines
+pub mod Devices
+pub mod Recordings

@@ -68,3 +68,8 @@ Sends before now (Err e) bytes = now ≡ before
 abbrev pub Receives : Option Talk → Option Talk → Result ℕ Failed → List ℕ → Type 0
 Receives before now (Ok n) buf = GoesOn before now (λ c. received_on c n (length buf) buf)
 Receives before now (Err e) buf = now ≡ before
+
+-- what was sent on the connection that stands, if any (this project's own)
+abbrev pub sent_of : Option Connection → List ℕ
+sent_of None = []
+sent_of (Some c) = c.sent

@@ -7,18 +7,23 @@
 
 mod blocks;
 mod calls;
+mod devices;
 mod disk_call;
 mod faults;
 mod file_disk;
 mod fresh;
 mod mem_disk;
+mod mem_wire;
 mod memory;
 mod outside;
 mod putting;
 mod peer;
 mod reading;
+mod recorded;
+mod script_peer;
 mod standard;
 mod sure;
+mod switchboard;
 mod tcp_wire;
 mod wire;
 mod writing;
@@ -26,11 +31,13 @@ mod writing;
 pub use file_disk::FileDisk;
 pub use fresh::{DISK, FRESH_HEAD};
 pub use mem_disk::MemDisk;
+pub use mem_wire::MemWire;
 pub use memory::{MemMedium, MemSink, MemSource};
 pub use outside::{Disk, Failed, Medium, Sink, Source};
 pub use putting::{put, settle};
 pub use peer::Peer;
 pub use reading::read_up_to;
+pub use script_peer::ScriptPeer;
 pub use standard::{StdinSource, StdoutSink};
 pub use sure::{SureDisk, SureMedium, SureSink, SureSource};
 pub use tcp_wire::TcpWire;
@@ -41,5 +48,3 @@ pub use writing::{put_all, put_three, put_two};
 mod disk_tests;
 #[cfg(test)]
 mod tests;
-#[cfg(test)]
-mod wire_tests;

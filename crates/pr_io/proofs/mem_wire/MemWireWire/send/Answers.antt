@@ -1,0 +1,24 @@
+use Rattle.std.proofs.Common.{◌≡◌, refl, sym, ap, ◌∙◌, None, Some, length}
+use Rattle.pr_io.specs.Recordings.{line_of}
+use Rattle.pr_io.specs.Talks.{sent_on, received_on}
+use Rattle.pr_io.proofs.Remaining.{remains, line_kept, line_begun, continues, goes_on_to}
+use Rattle.pr_io.proofs.mem_wire.MemWireWire.send.Goals as goal
+
+pub returns-then-next_fails-clause-comes : goal.returns-then-next_fails-clause-comes
+returns-then-next_fails-clause-comes g c =
+    remains g.P.Peer.stands g.P.Peer.comes g.met.P.Peer.comes_at_once c.args.self.now.devices.items c.args.self.now.devices.items (line_of c.args.self.now.earlier.items c.args.self.now.current) (line_of c.args.self.now.earlier.items c.args.self.now.current) refl (λ j. refl)
+
+pub returns-in_default-clause-comes : goal.returns-in_default-clause-comes
+returns-in_default-clause-comes g c =
+    remains g.P.Peer.stands g.P.Peer.comes g.met.P.Peer.comes_at_once c.args.self.now.devices.items c.args.self.now.devices.items (line_of c.args.self.now.earlier.items c.args.self.now.current) (line_of c.args.self.now.earlier.items c.take.new.self) refl
+    (λ j. ap (λ x. line_of c.args.self.now.earlier.items x j) (c.take.ensures.after ∙ sym c.in_default.is ∙ c.take.ensures.value))
+
+pub returns-in-Ok-clause-talk : goal.returns-in-Ok-clause-talk
+returns-in-Ok-clause-talk g c =
+    continues c.args.self.now.earlier.items c.args.self.now.current c.in-Some.recorded c.speak-passed.new.recorded (λ x. sent_on x c.args.bytes.now) (sym c.take.ensures.value ∙ c.in-Some.is) (rw c.in-Ok.is at c.speak-passed.ensures.sent)
+
+pub returns-in-Err-clause-comes : goal.returns-in-Err-clause-comes
+returns-in-Err-clause-comes g c =
+    remains g.P.Peer.stands g.P.Peer.comes g.met.P.Peer.comes_at_once c.args.self.now.devices.items c.speak-passed.new.devices.items (line_of c.args.self.now.earlier.items c.args.self.now.current) (line_of c.args.self.now.earlier.items (Some c.speak-passed.new.recorded)) (rw c.in-Err.is at c.speak-passed.ensures.kept)
+    (λ j. line_kept c.args.self.now.earlier.items c.in-Some.recorded c.speak-passed.new.recorded (rw c.in-Err.is at c.speak-passed.ensures.none) j
+    ∙ ap (λ x. line_of c.args.self.now.earlier.items x j) (sym (sym c.take.ensures.value ∙ c.in-Some.is)))

@@ -1,0 +1,35 @@
+-- The connections that a wire in memory has recorded (this project's own).
+use Rattle.std.specs.Prelude.{◌≡◌, ℕ, ◌==◌, List, [], Option, Some, None, map, if◌then◌else◌}
+use Rattle.std.specs.List.{filter}
+use Rattle.std.specs.String.{string_bytes}
+use Rattle.pr_io.specs.declared.recorded.Recorded.{Recorded}
+use Rattle.pr_io.specs.Talks.{Connection, Talk}
+use Rattle.pr_io.specs.Lines.{Exchange, Line, nothing_said}
+
+abbrev pub told_of : Recorded → Connection
+told_of r = record { address = string_bytes r.address; sent = r.sent.items; received = r.received.items; ended = r.ended }
+
+abbrev pub told_current : Option Recorded → Option Connection
+told_current None = None
+told_current (Some r) = Some (told_of r)
+
+-- the connections that were given up, and the one that stands (this project's own)
+abbrev pub talk_of : List Recorded → Option Recorded → Talk
+talk_of earlier current = record { earlier = map told_of earlier; current = told_current current }
+
+-- what the device heard, and what it said (this project's own)
+abbrev pub exchange_of : Recorded → Exchange
+exchange_of r = record { heard = (told_of r).sent; said = (told_of r).received }
+
+abbrev pub last_of : ℕ → Option Recorded → Exchange
+last_of i None = nothing_said
+last_of i (Some r) = if r.device == i then exchange_of r else nothing_said
+
+-- the same connection later (this project's own)
+abbrev pub IsLater : (Connection → Connection) → Recorded → Recorded → Type 0
+IsLater change old new = (new.device ≡ old.device) × (told_of new ≡ change (told_of old))
+
+-- what the device of a place heard and said; where it isn't connected, a connection of which there is nothing yet follows
+-- (this project's own)
+abbrev pub line_of : List Recorded → Option Recorded → ℕ → Line
+line_of earlier current i = record { past = map exchange_of (filter (λ r. r.device == i) earlier); last = last_of i current }
