@@ -8,7 +8,9 @@ use pr_words::Nexus;
 #[derive(Clone, Copy, Debug)]
 pub enum Act {
     /// A login, of a version of the link's protocol.
-    Login { version: u8 },
+    Login {
+        version: u8,
+    },
     /// A command, whose data-out is the first `out_len` bytes of the session's data.
     Command {
         lun: u16,

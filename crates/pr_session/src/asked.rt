@@ -22,9 +22,15 @@ pub(crate) enum Asked {
         out_len: usize,
     },
     /// A Logout frame's.
-    Logout { head: Frame, nexus: Nexus },
+    Logout {
+        head: Frame,
+        nexus: Nexus,
+    },
     /// The logout before a Reject.
-    Reject { nexus: Nexus, rejection: Rejection },
+    Reject {
+        nexus: Nexus,
+        rejection: Rejection,
+    },
 }
 
 impl Asked {

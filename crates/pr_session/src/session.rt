@@ -204,9 +204,7 @@ impl Session {
         let place = self.deframer.place();
         match self.work.take_frame(&mut self.deframer) {
             Got::Need(lacks) => Want::Need(lacks),
-            Got::Bad { place, reason } => {
-                self.refuse(logged_in, Rejection { place, reason })
-            }
+            Got::Bad { place, reason } => { self.refuse(logged_in, Rejection { place, reason }) }
             Got::Frame(head) => self.serve(logged_in, place, head),
         }
     }
@@ -271,8 +269,9 @@ impl Session {
         }
     }
 
-    /// Has an act done by a target, under a number.
-    pub(crate) fn perform<M: Medium, D: Disk>(
+    /// Has the act that is wanted done by a target, under a number. A command has its data-out from the
+    /// work buffer, and leaves its data-in there.
+    pub fn perform<M: Medium, D: Disk>(
         &mut self,
         core: &mut Core<M, D>,
         who: u64,

@@ -18,8 +18,8 @@ ghost use Rattle.pr_tool.specs.Asking.{AsksReplay};
 
 use crate::asking::lanes_asked;
 use crate::exit::Exit;
-use crate::schedule::{End, Record, read_record};
 use crate::lane::Lane;
+use crate::schedule::{End, Record, read_record};
 use pr_core::{Core, Room};
 use pr_io::{Disk, Failed, Medium, Sink, Source};
 use std::alloc::{AllocError, Global};

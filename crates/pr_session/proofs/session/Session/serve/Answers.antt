@@ -29,8 +29,8 @@ returns-in-Command c l same =
     let refused : Begins l (broken Fresh c.args.place 5) c.refuse.result c.refuse.new.self = c.refuse.ensures l (same ∙ from) in
     let turn : asked (phase_of (living c.args.logged_in)) c.args.place (frame_of c.args.head body) held ≡ broken Fresh c.args.place 5 =
     elim c.in-Command.is [
-      inl (cdb, sent, is) ↦ serves _ Fresh c.args.place c.args.head body held (Command cdb sent) from c.requires.formed.2 (read ∙ is)
-    | inr is ↦ serves _ Fresh c.args.place c.args.head body held Logout from c.requires.formed.2 (read ∙ is)
+      | inl (cdb, sent, is) ↦ serves _ Fresh c.args.place c.args.head body held (Command cdb sent) from c.requires.formed.2 (read ∙ is)
+      | inr is ↦ serves _ Fresh c.args.place c.args.head body held Logout from c.requires.formed.2 (read ∙ is)
     ] in
     subst (λ (t : Turn). Begins l t c.refuse.result c.refuse.new.self) (sym turn) refused
 
