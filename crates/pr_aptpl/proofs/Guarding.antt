@@ -1,11 +1,11 @@
 -- A part of a file behind a gate: what its images restore while the gate is closed, the part written, and the gate opened.
-use Rattle.std.proofs.Common.{◌≡◌, ◌⊎◌, inl, inr, ⊎_elim, ℕ, ◌+◌, ◌<◌, ◌≤◌, Bool, true, false, List, [], ◌∷◌, ◌++◌, length, MatchBool, Result, OnOk, Ok, refl, sym, ◌∙◌, ap, subst, arith}
+use Rattle.std.proofs.Common.{◌≡◌, ◌⊎◌, inl, inr, ⊎_elim, ℕ, ◌+◌, ◌<◌, ◌≤◌, Bool, true, false, List, [], ◌∷◌, ◌++◌, length, Result, Ok, refl, sym, ◌∙◌, ap, subst, arith}
 use Rattle.std.proofs.lemmas.Bool.{cases_eq}
 use Rattle.std.proofs.lemmas.Result.{IfOk-at_ok}
 use Rattle.pr_grammar.specs.Standings.{Kept}
-use Rattle.pr_grammar.specs.Files.{Restoration, Keeps, Bad}
+use Rattle.pr_grammar.specs.Files.{Restoration, Keeps}
 use Rattle.pr_io.specs.Images.{Image, Story, Within, Written}
-use Rattle.pr_io.specs.Spans.{Goes, Admits, Torn, Has, Puts, Settles}
+use Rattle.pr_io.specs.Spans.{Goes, Admits, Torn, Puts}
 use Rattle.pr_aptpl.specs.Doubts.{IsOneOf}
 use Rattle.pr_aptpl.specs.Gates.{Guards, Guarded, Closes}
 use Rattle.pr_aptpl.proofs.Slots.{in_first, in_last}

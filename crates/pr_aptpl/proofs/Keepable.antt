@@ -1,5 +1,5 @@
 -- What is read from a slot may be kept.
-use Rattle.std.proofs.Common.{◌≡◌, ◌⊎◌, inl, inr, ⊎_elim, ℕ, zero, suc, ◌+◌, ◌*◌, ◌<◌, ◌≤◌, ◌==◌, nat_lt, ◌&&◌, ◌||◌, Bool, true, false, not, IsTrue, All, if◌then◌else◌, List, [], ◌∷◌, length, drop, get_or, slice_index, Option, Some, None, is_some, refl, sym, ◌∙◌, ap, subst, arith}
+use Rattle.std.proofs.Common.{◌≡◌, ℕ, zero, suc, ◌+◌, ◌<◌, ◌≤◌, ◌==◌, nat_lt, ◌&&◌, ◌||◌, Bool, true, false, not, IsTrue, All, if◌then◌else◌, List, [], ◌∷◌, length, drop, get_or, slice_index, Option, Some, None, refl, sym, ◌∙◌, ap, subst, arith}
 use Rattle.std.proofs.lemmas.Bool.{ne_eqb, not-true, not_from_false, and_parts, ltb-true, ltb-false, or_left, or_right}
 use Rattle.std.proofs.lemmas.List.Elements.{All-cons}
 use Rattle.std.proofs.lemmas.List.Kept.{AllPairs-cons}
@@ -9,12 +9,10 @@ use Rattle.pr_words.specs.Orders.{comes_before, same_nexus}
 use Rattle.pr_words.specs.declared.nexus.Nexus.{Nexus}
 use Rattle.pr_words.specs.declared.nexus.Pair.{Pair}
 use Rattle.pr_words.specs.declared.reservation.Kind.{Kind}
-use Rattle.pr_words.specs.declared.reservation.Reservation.{Reservation}
-use Rattle.pr_words.specs.declared.reservation.Reservation.TheVariants.{Free, OfOne, OfAll}
-use Rattle.pr_grammar.specs.Standings.{Kept, Nothing, Some_kept, IsAscending, is_all, is_port, is_at, is_registered}
-use Rattle.pr_grammar.specs.Files.{Listed, Good, Wrong, put_first, first_pair, is_after, checked, listed, Slot, Closed, Open, Broken, nobody, nexus_at, reservation_at, is_type, is_count, is_holder_place, field_fault, filled, unless_broken, opened, slot}
-use Rattle.pr_model.specs.Registrants.{IsHeldIn, IsWellFormed}
-use Rattle.pr_model.specs.Worlds.{restored}
+use Rattle.pr_words.specs.declared.reservation.Reservation.TheVariants.{OfOne, OfAll}
+use Rattle.pr_grammar.specs.Standings.{Kept, Nothing, Some_kept, IsAscending, is_all, is_port, is_registered}
+use Rattle.pr_grammar.specs.Files.{Listed, Good, Wrong, put_first, first_pair, is_after, checked, listed, Slot, Closed, Open, Broken, nexus_at, reservation_at, is_type, is_count, is_holder_place, field_fault, filled, unless_broken, opened, slot}
+use Rattle.pr_model.specs.Registrants.{IsHeldIn}
 use Rattle.pr_model.proofs.Orders.{before_through}
 use Rattle.pr_aptpl.specs.Doubts.{HavePorts, IsKeepable}
 use Rattle.pr_aptpl.specs.Views.{IsSound}

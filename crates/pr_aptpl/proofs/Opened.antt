@@ -1,9 +1,9 @@
 -- An image that was read, and what a keeper may rest on.
-use Rattle.std.proofs.Common.{◌≡◌, ◌⊎◌, inl, inr, ⊎_elim, ℕ, zero, suc, ◌+◌, ◌*◌, ◌<◌, ◌≤◌, ◌==◌, nat_lt, Bool, true, false, not, if◌then◌else◌, List, [], ◌∷◌, length, drop, slice_index, Option, Some, None, MatchBool, Result, Ok, Err, OnOk, refl, sym, ◌∙◌, ap, subst, arith}
+use Rattle.std.proofs.Common.{◌≡◌, inl, inr, ⊎_elim, ℕ, ◌+◌, ◌<◌, ◌==◌, nat_lt, Bool, true, false, not, if◌then◌else◌, List, [], ◌∷◌, length, drop, slice_index, Option, Some, None, Ok, Err, refl, sym, ◌∙◌, ap, subst, arith}
 use Rattle.std.proofs.lemmas.Bool.{cases_eq, ltb-false, eq-eqb}
 use Rattle.pr_words.specs.Fields.{number16_at}
-use Rattle.pr_grammar.specs.Standings.{Kept, Nothing}
-use Rattle.pr_grammar.specs.Files.{cut, slot, opened, field_fault, unless_broken, filled, listed, Listed, Good, Wrong, Slot, Closed, Open, Broken, Restoration, Keeps, Bad, both, part, after_head, restores, slot_at, place_of, first_wrong, slot_size}
+use Rattle.pr_grammar.specs.Standings.{Kept}
+use Rattle.pr_grammar.specs.Files.{cut, slot, opened, field_fault, unless_broken, filled, listed, Listed, Good, Wrong, Slot, Closed, Open, Keeps, Bad, both, part, after_head, restores, slot_at, place_of, first_wrong, slot_size}
 use Rattle.pr_grammar.specs.declared.file.FileLayout.{FileLayout}
 use Rattle.pr_io.specs.Images.{Image, Story, Within, Stays}
 use Rattle.pr_io.specs.Spans.{Admits}
@@ -15,7 +15,7 @@ use Rattle.pr_aptpl.specs.Opens.{IsOther, IsTarget, Joins, first_of, first_diff,
 use Rattle.pr_aptpl.specs.declared.aim.Aim.{Aim}
 use Rattle.pr_aptpl.specs.declared.fault.OpenFault.{OpenFault}
 use Rattle.pr_aptpl.specs.declared.fault.OpenFault.TheVariants.{BadFile, DiskFault, OutOfMemory}
-use Rattle.pr_aptpl.proofs.Slots.{closed_slot, joined}
+use Rattle.pr_aptpl.proofs.Slots.{joined}
 use Rattle.pr_aptpl.proofs.SlotParts.{other_same, head_same, gate_within, from_slots, closed_restores, current_same, open_gate, gate_same}
 use Rattle.pr_aptpl.proofs.ReadBack.{wrong_diff}
 

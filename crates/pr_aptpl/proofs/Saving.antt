@@ -1,8 +1,8 @@
 -- The three parts of a save together, where each of them may fail.
-use Rattle.std.proofs.Common.{◌≡◌, ◌⊎◌, inl, inr, ℕ, ◌+◌, ◌*◌, ◌<◌, ◌≤◌, Bool, true, false, not, List, [], ◌∷◌, ◌++◌, length, Option, Some, None, is_some, Result, Ok, Err, IsErr, OnOk, refl, sym, ◌∙◌, ap, subst, arith}
+use Rattle.std.proofs.Common.{◌≡◌, inl, ℕ, ◌+◌, ◌*◌, ◌<◌, ◌≤◌, Bool, true, false, not, List, [], ◌∷◌, ◌++◌, length, Option, Some, is_some, Result, Ok, Err, IsErr, refl, sym, subst, arith}
 use Rattle.std.proofs.lemmas.Result.{IfOk-at_ok}
 use Rattle.pr_grammar.specs.Standings.{Standing, Kept}
-use Rattle.pr_grammar.specs.Files.{restores, place_of, slot_size, spelled_slot}
+use Rattle.pr_grammar.specs.Files.{restores, place_of, spelled_slot}
 use Rattle.pr_grammar.specs.declared.file.FileLayout.{FileLayout}
 use Rattle.pr_io.specs.Images.{Image, Story}
 use Rattle.pr_io.specs.Spans.{Goes, Admits, Puts}

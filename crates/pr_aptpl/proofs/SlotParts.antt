@@ -1,9 +1,9 @@
 -- A slot as a part behind its gate.
-use Rattle.std.proofs.Common.{◌≡◌, ◌⊎◌, inl, inr, ⊎_elim, ℕ, ◌+◌, ◌*◌, ◌<◌, ◌≤◌, nat_le, nat_lt, ◌&&◌, Bool, true, false, not, List, [], ◌∷◌, ◌++◌, length, Option, Some, None, is_some, MatchBool, Result, Ok, refl, sym, ◌∙◌, ap, subst, arith}
+use Rattle.std.proofs.Common.{◌≡◌, ◌⊎◌, inl, inr, ⊎_elim, ℕ, ◌+◌, ◌*◌, ◌≤◌, nat_le, nat_lt, ◌&&◌, Bool, true, false, not, List, [], ◌∷◌, ◌++◌, Option, Some, None, is_some, MatchBool, Result, Ok, refl, sym, ◌∙◌, ap, subst, arith}
 use Rattle.std.proofs.lemmas.Bool.{cases_eq, and_left, and_right, and_from, lt-leb, le-ltb, le-leb, lt-ltb}
 use Rattle.std.proofs.lemmas.Result.{IfOk-at_ok}
-use Rattle.pr_grammar.specs.Standings.{Kept, Nothing}
-use Rattle.pr_grammar.specs.Files.{cut, Slot, Closed, Open, Restoration, Keeps, slot, restores, part, after_head, slot_at, place_of, first_wrong, slot_size}
+use Rattle.pr_grammar.specs.Standings.{Kept}
+use Rattle.pr_grammar.specs.Files.{cut, Slot, Closed, Open, Keeps, slot, restores, part, after_head, slot_at, place_of, first_wrong, slot_size}
 use Rattle.pr_grammar.specs.declared.file.FileLayout.{FileLayout}
 use Rattle.pr_io.specs.Images.{Image, Story, Within, Written}
 use Rattle.pr_io.specs.Spans.{Admits, Puts}

@@ -1,10 +1,9 @@
 -- What changes of an image do to what it restores.
-use Rattle.std.proofs.Common.{◌≡◌, ◌≢◌, ◌⊎◌, inl, inr, ⊎_elim, ℕ, zero, suc, ◌+◌, ◌*◌, ◌<◌, ◌≤◌, ◌==◌, Bool, true, false, not, if◌then◌else◌, List, [], ◌∷◌, ◌++◌, length, slice_index, Option, Some, None, MatchBool, refl, sym, ◌∙◌, ap, subst, arith, cond}
-use Rattle.std.proofs.lemmas.Bool.{cases_eq, ne_eqb, eq-eqb}
-use Rattle.std.proofs.lemmas.Bool.Decides.{nat_tests}
-use Rattle.pr_io.specs.Images.{Image, Within, Written, Holds}
+use Rattle.std.proofs.Common.{◌≡◌, inl, inr, ℕ, zero, suc, ◌+◌, ◌<◌, ◌≤◌, Bool, true, false, not, if◌then◌else◌, List, [], ◌∷◌, ◌++◌, length, Option, Some, None, refl, sym, ◌∙◌, ap, arith}
+use Rattle.std.proofs.lemmas.Bool.{ne_eqb}
+use Rattle.pr_io.specs.Images.{Image, Within}
 use Rattle.pr_grammar.specs.Standings.{Kept, Nothing}
-use Rattle.pr_grammar.specs.Files.{cut, Slot, Closed, Open, Broken, Restoration, Keeps, Bad, slot, opened, both, next_turn, restores, part, after_head, slot_at, place_of, first_wrong, slot_size}
+use Rattle.pr_grammar.specs.Files.{cut, Slot, Closed, Open, Broken, Restoration, Keeps, Bad, slot, opened, both, next_turn, part, slot_at, first_wrong, slot_size}
 use Rattle.pr_aptpl.specs.Doubts.{IsIn, IsOneOf}
 use Rattle.pr_aptpl.specs.Slots.{IsCurrent, turn_after}
 use Rattle.pr_grammar.specs.declared.file.FileLayout.{FileLayout}

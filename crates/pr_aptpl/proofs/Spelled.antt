@@ -1,21 +1,21 @@
 -- What was spelled is read as it was.
-use Rattle.std.proofs.Common.{◌≡◌, ◌⊎◌, inl, inr, ⊎_elim, ℕ, zero, suc, ◌+◌, ◌-◌, ◌*◌, ◌<◌, ◌≤◌, ◌^◌, ◌==◌, nat_lt, ◌&&◌, ◌||◌, Bool, true, false, not, IsTrue, All, if◌then◌else◌, List, [], ◌∷◌, ◌++◌, length, take, drop, get_or, slice_index, Option, Some, None, refl, sym, ◌∙◌, ap, subst, arith, lit<}
-use Rattle.std.specs.Int.{w16, w64, to_be_bytes, from_be_bytes}
+use Rattle.std.proofs.Common.{◌≡◌, ℕ, zero, suc, ◌+◌, ◌-◌, ◌*◌, ◌<◌, ◌≤◌, ◌^◌, ◌==◌, nat_lt, ◌&&◌, ◌||◌, Bool, true, false, not, IsTrue, All, if◌then◌else◌, List, [], ◌∷◌, ◌++◌, length, take, drop, Option, Some, None, refl, sym, ◌∙◌, ap, arith, lit<}
+use Rattle.std.specs.Int.{w16, to_be_bytes, from_be_bytes}
 use Rattle.std.specs.List.{flat_map}
 use Rattle.std.proofs.lemmas.List.{length-take-le, length-drop}
 use Rattle.std.proofs.lemmas.Nat.{from_be_bytes-to_be_bytes_2, from_be_bytes-to_be_bytes_8}
-use Rattle.std.proofs.lemmas.Bool.{and_parts, and_from, or_right, or_cases, ltb-true, le-ltb, lt-ltb, not-true, not_from_false}
+use Rattle.std.proofs.lemmas.Bool.{and_parts, and_from, or_right, ltb-true, le-ltb, lt-ltb, not-true, not_from_false}
 use Rattle.pr_words.specs.Fields.{number16_at, number64_at}
-use Rattle.pr_words.specs.Kinds.{kind_at, kind_code}
-use Rattle.pr_words.specs.Orders.{comes_before, same_nexus}
+use Rattle.pr_words.specs.Kinds.{kind_at}
+use Rattle.pr_words.specs.Orders.{same_nexus}
 use Rattle.pr_words.specs.declared.nexus.Nexus.{Nexus}
 use Rattle.pr_words.specs.declared.nexus.Pair.{Pair}
 use Rattle.pr_words.specs.declared.reservation.Kind.{Kind}
 use Rattle.pr_words.specs.declared.reservation.Kind.TheVariants.{WriteExclusive, ExclusiveAccess, WriteRegistrants, ExclusiveRegistrants, WriteAll, ExclusiveAll}
 use Rattle.pr_words.specs.declared.reservation.Reservation.{Reservation}
 use Rattle.pr_words.specs.declared.reservation.Reservation.TheVariants.{Free, OfOne, OfAll}
-use Rattle.pr_grammar.specs.Standings.{Standing, Kept, Nothing, Some_kept, IsAscending, is_all, is_port, is_registered, kind_of, holder_of}
-use Rattle.pr_grammar.specs.Files.{cut, Listed, Good, Wrong, put_first, first_pair, is_after, checked, listed, Slot, Open, nexus_at, reservation_at, is_type, is_count, is_holder_place, by_fields, unless_broken, filled, slot, place_of, spelled_pair, spelled_fields, spelled_slot, type_code, place_in, holder_place}
+use Rattle.pr_grammar.specs.Standings.{Standing, Kept, Nothing, Some_kept, IsAscending, is_port, is_registered, kind_of, holder_of}
+use Rattle.pr_grammar.specs.Files.{cut, Listed, Good, Wrong, put_first, first_pair, is_after, checked, listed, Open, nexus_at, reservation_at, is_type, is_count, is_holder_place, by_fields, unless_broken, filled, slot, place_of, spelled_pair, spelled_fields, spelled_slot, type_code, place_in, holder_place}
 use Rattle.pr_grammar.specs.declared.file.FileLayout.{FileLayout}
 use Rattle.pr_io.specs.Images.{Image, Holds}
 use Rattle.pr_model.specs.Keeping.{kept}

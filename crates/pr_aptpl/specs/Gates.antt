@@ -1,5 +1,5 @@
 -- A part of a file behind a gate, which is one byte: a keeper closes it, writes the part, and opens it (this project's own).
-use Rattle.std.specs.Prelude.{◌≡◌, ℕ, Bool, List, [], ◌∷◌, MatchBool, Result, Ok, Err, OnOk, OnErr, false}
+use Rattle.std.specs.Prelude.{◌≡◌, ℕ, Bool, List, [], ◌∷◌, MatchBool, Result, OnOk, OnErr, false}
 use Rattle.pr_grammar.specs.Standings.{Kept}
 use Rattle.pr_grammar.specs.Files.{Restoration}
 use Rattle.pr_io.specs.Images.{Image, Story, Within}

@@ -9,7 +9,7 @@ use Rattle.pr_io.specs.Spans.{Admits}
 use Rattle.pr_aptpl.specs.Slots.{Stands}
 use Rattle.pr_aptpl.specs.declared.aim.Aim.{Aim}
 use Rattle.pr_aptpl.specs.declared.fault.OpenFault.{OpenFault}
-use Rattle.pr_aptpl.specs.declared.fault.OpenFault.TheVariants.{BadFile, DiskFault, OutOfMemory}
+use Rattle.pr_aptpl.specs.declared.fault.OpenFault.TheVariants.{BadFile, DiskFault}
 
 -- the disk failed just once where that is the fault, else it didn't
 abbrev pub IsFaultOf : OpenFault → ℕ → ℕ → Type 0

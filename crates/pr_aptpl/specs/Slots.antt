@@ -5,7 +5,7 @@ use Rattle.pr_grammar.specs.Files.{Slot, Closed, Open, restores, slot_at, place_
 use Rattle.pr_grammar.specs.declared.file.FileLayout.{FileLayout}
 use Rattle.pr_io.specs.Images.{Image, Story}
 use Rattle.pr_aptpl.specs.Doubts.{IsIn}
-use Rattle.pr_aptpl.specs.Gates.{Guards, Guarded}
+use Rattle.pr_aptpl.specs.Gates.{Guarded}
 
 -- the slot that isn't written next is current, with this turn, or no slot is
 abbrev pub IsCurrent : Option ℕ → List Kept → ℕ → Slot → Type 0

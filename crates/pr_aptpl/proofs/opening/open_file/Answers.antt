@@ -1,4 +1,4 @@
-use Rattle.std.proofs.Common.{◌≡◌, sym, ◌∙◌, Ok, Err}
+use Rattle.std.proofs.Common.{◌∙◌}
 use Rattle.pr_grammar.specs.Files.{file_head, file_layout}
 use Rattle.pr_aptpl.proofs.Apart.{apart}
 use Rattle.pr_aptpl.proofs.Opened.{head_fails, opened_at, stays_on, joined_fits, broken_gives}

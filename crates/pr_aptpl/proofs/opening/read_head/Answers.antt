@@ -1,4 +1,4 @@
-use Rattle.std.proofs.Common.{◌≡◌, ℕ, List, sym, ◌∙◌, ap, refl}
+use Rattle.std.proofs.Common.{ℕ, List, sym, ◌∙◌, ap}
 use Rattle.pr_grammar.specs.Files.{file_head}
 use Rattle.pr_aptpl.specs.Opens.{first_diff}
 use Rattle.pr_aptpl.proofs.ReadBack.{cut_read}

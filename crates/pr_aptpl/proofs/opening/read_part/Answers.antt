@@ -1,4 +1,4 @@
-use Rattle.std.proofs.Common.{◌≡◌, ℕ, List, sym, ◌∙◌, ap, refl}
+use Rattle.std.proofs.Common.{◌∙◌, ap}
 use Rattle.pr_grammar.specs.Files.{slot}
 use Rattle.pr_aptpl.proofs.Keepable.{slot_sound}
 use Rattle.pr_aptpl.proofs.ReadBack.{cut_read}

@@ -1,8 +1,8 @@
-use Rattle.std.proofs.Common.{◌≡◌, ◌≤◌, ◌<◌, ◌+◌, ◌*◌, ◌^◌, ◌==◌, None, length, drop, ℕ, ◌-◌, Bool, true, false, not, nat_eq, List, [], ◌∷◌, ◌++◌, sym, ◌∙◌, ap, arith}
+use Rattle.std.proofs.Common.{◌==◌, length, sym, ◌∙◌, ap, arith}
 use Rattle.std.proofs.lemmas.Bool.{ne_eqb, eq-eqb}
 use Rattle.std.proofs.lemmas.List.{length-drop}
 use Rattle.pr_grammar.specs.Standings.{is_port}
-use Rattle.pr_grammar.specs.Files.{listed, first_pair, is_after, Good}
+use Rattle.pr_grammar.specs.Files.{is_after}
 use Rattle.pr_words.specs.declared.nexus.Pair.{Pair}
 use Rattle.pr_aptpl.proofs.Lists.{bad_port, bad_key, bad_order, good_pair_as, all_read}
 use Rattle.pr_aptpl.proofs.reading.read_pairs.Goals as goal

@@ -1,7 +1,5 @@
-use Rattle.std.proofs.Common.{◌≡◌, ℕ, ◌+◌, ◌*◌, ◌-◌, ◌≤◌, [], ◌∷◌, ◌++◌, List, length, take, drop, Bool, false, not, sym, ◌∙◌, ap, subst, arith, lit<}
-use Rattle.std.proofs.lemmas.List.{length-take-le, length-drop}
+use Rattle.std.proofs.Common.{◌≡◌, ℕ, [], ◌∷◌, take, sym, subst, lit<}
 use Rattle.pr_grammar.specs.Files.{file_head, file_layout, spelled_slot}
-use Rattle.pr_io.specs.Images.{Story}
 use Rattle.pr_io.specs.declared.outside.Failed.{Failed}
 use Rattle.pr_model.specs.Keeping.{kept}
 use Rattle.pr_table.specs.Tables.{standing_of}
