@@ -37,3 +37,5 @@ pub use writing::{put_all, put_three, put_two};
 
 #[cfg(test)]
 mod tests;
+#[cfg(test)]
+mod wire_tests;
