@@ -9,7 +9,7 @@ use Rattle.pr_words.specs.Fields.{number32_at}
 use Rattle.pr_words.specs.declared.nexus.Side.{Side}
 use Rattle.pr_words.specs.declared.nexus.Side.TheVariants.{Initiator}
 use Rattle.pr_grammar.specs.Frames as grammar
-use Rattle.pr_grammar.specs.Frames.{Lacking, Broken, Whole, front, sized}
+use Rattle.pr_grammar.specs.Frames.{Lacking, Broken, Whole, front, is_body, sized}
 use Rattle.pr_link.specs.declared.frame.Frame.{Frame}
 use Rattle.pr_link.specs.declared.front.Front.TheVariants as fronts
 use Rattle.pr_link.specs.Streams.{frame_of}
@@ -48,6 +48,7 @@ rest_lacks xs ys k four lacks number few =
 pub record Just (side : Side) (g : Frame) (work : List ℕ) (n : ℕ) : Type 0 where
   pub size : n ≡ 12 + g.body
   pub bound : g.body ≤ 524308
+  pub formed : is_body side g.kind (body_in g.body work) ≡ true
   pub whole : front side (take (12 + g.body) work) ≡ Whole (frame_of g (body_in g.body work)) []
 
 just_by : (side : Side) (g : Frame) (work : List ℕ) (n : ℕ) (k : grammar.Front) → k ≡ front side (take n work) → n ≤ length work → number32_at (take n work) 0 + 4 ≡ n → IsFront side k (fronts.Whole g) (take n work) → Just side g work n
@@ -60,6 +61,7 @@ just_by side g work n (Whole f rest) is within number found =
     record {
       size = size;
       bound = found.2;
+      formed = ap (is_body side g.kind) (sym cut) ∙ found.5;
       whole = ap (λ (m : ℕ). front side (take m work)) (sym size) ∙ sym is ∙ ap (λ (h : grammar.Frame). Whole h rest) (found.0 ∙ ap (frame_of g) cut) ∙ ap (Whole (frame_of g (body_in g.body work))) none;
     }
 just_by side g work n (Lacking k) is within number found = absurd found

@@ -1,6 +1,6 @@
 -- A connection that goes on, call by call.
 use Rattle.std.proofs.Common.{◌≡◌, ◌≤◌, ◌<◌, ℕ, zero, suc, ◌+◌, ◌-◌, Bool, true, false, ◌==◌, ◌&&◌, not, List, ◌++◌, [], length, take, drop, Option, Some, None, refl, sym, ap, ◌∙◌, append_assoc, arith, subst, if◌then◌else◌}
-use Rattle.std.specs.Prelude.{Result, Ok, Err}
+use Rattle.std.specs.Prelude.{Result, Ok, Err, OnOk, OnErr}
 use Rattle.std.proofs.lemmas.Bool.{eqb-true, eq-eqb, ne_eqb}
 use Rattle.std.proofs.lemmas.List.{append-nil}
 use borrow.Rule.Slice.PartMut.{put_mid}
@@ -83,3 +83,15 @@ next_in a b c xs ys at n p q le count same =
 -- a call that failed
 pub nothing : (a b : Option Talk) → b ≡ a → Goes a b [] []
 nothing a b same = subst (λ (t : Option Talk). Goes a t [] []) (sym same) (stays a)
+
+-- a request of a head and its data
+pub both_sent : (a b c : Option Talk) (x y : List ℕ) → Sends a b (Ok tt) x → Sends b c (Ok tt) y → Goes a c (x ++ y) []
+both_sent a b c x y p q = more a b c x y [] [] (sent a b x p) (sent b c y q)
+
+pub sent_whole : (r : Result Unit Failed) (a b c : Option Talk) (x y whole : List ℕ) → Sends a b (Ok tt) x → Sends b c r y → x ++ y ≡ whole → OnOk r (Goes a c whole [])
+sent_whole (Ok u) a b c x y whole p q is = subst (λ (w : List ℕ). Goes a c w []) is (both_sent a b c x y p q)
+sent_whole (Err e) a b c x y whole p q is = tt
+
+pub sent_part : (r : Result Unit Failed) (a b c : Option Talk) (x y : List ℕ) → Sends a b (Ok tt) x → Sends b c r y → OnErr r ((said : List ℕ) × Goes a c said [])
+sent_part (Ok u) a b c x y p q = tt
+sent_part (Err e) a b c x y p q = (x, subst (λ (t : Option Talk). Goes a t x []) (sym q) (sent a b x p))

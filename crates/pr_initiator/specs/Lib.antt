@@ -1,2 +1,5 @@
 pub mod Goings
 pub mod Hearing
+pub mod Asking
+pub mod Judging
+pub mod Answering

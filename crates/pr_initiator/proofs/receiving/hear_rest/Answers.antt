@@ -21,9 +21,13 @@ returns-then-n-lacks-clause-hears g c t before =
     let front_size : length (take 4 work) ≡ 4 = length-take-le 4 work (omega (arith, c.requires.room)) in
     let heard : List ℕ = take c.in-Ok.n c.receive_up_to.new.buf in
     let few : length heard < k = omega (arith, length-take c.in-Ok.n c.receive_up_to.new.buf, c.if-n-lacks.true) in
-    let room : length (take (4 + k - 4) (drop 4 work)) ≡ 4 + k - 4 = length-take-le (4 + k - 4) (drop 4 work) (omega (arith, length-drop 4 work, c.requires.room, c.requires.few)) in
-    (take 4 work ++ heard, 4 + k - length (take 4 work ++ heard), more t _ _ [] [] (take 4 work) heard before c.in-Ok.ensures.goes,
-    rest_lacks (take 4 work) heard k front_size c.requires.lacks c.requires.number few, c.in-Ok.ensures.ended (omega (arith, room, c.if-n-lacks.true)))
+    let room : length (take (4 + k - 4) (drop 4 work)) ≡ 4 + k - 4 = length-take-le (4 + k - 4) (drop 4 work) (omega (arith, length-drop 4 work, c.requires.room, c.requires.few)) in (
+      take 4 work ++ heard,
+      4 + k - length (take 4 work ++ heard),
+      more t _ _ [] [] (take 4 work) heard before c.in-Ok.ensures.goes,
+      rest_lacks (take 4 work) heard k front_size c.requires.lacks c.requires.number few,
+      c.in-Ok.ensures.ended (omega (arith, room, c.if-n-lacks.true)),
+    )
 
 -- all bytes that lacked have come
 abbrev came : (work buf : List ℕ) (k : ℕ) → List ℕ
@@ -52,7 +56,7 @@ returns-in-Whole-clause-hears g c t before =
     omega (arith, length-append (take 4 work) (buf ++ drop (4 + k - 4) (drop 4 work)), length-append buf (drop (4 + k - 4) (drop 4 work)), length-take-le 4 work (omega (arith, room)), size) in
     let one = just Initiator c.in-Whole.frame (came work buf k) (4 + k) within (numbered work buf k room size c.requires.number) c.in-Whole.ensures in
     let goes = all_heard t _ work buf c.in-Ok.n k room size c.if-n-lacks.false (more t _ _ [] [] (take 4 work) (take c.in-Ok.n buf) before c.in-Ok.ensures.goes) in
-    (subst (λ (n : ℕ). Goes t (g.W.Wire.talk c.receive_up_to.new.wire) [] (take n (came work buf k))) one.size goes, one.whole, one.bound)
+    (subst (λ (n : ℕ). Goes t (g.W.Wire.talk c.receive_up_to.new.wire) [] (take n (came work buf k))) one.size goes, one.whole, one.bound, one.formed)
 
 pub returns-in-Bad-clause-hears : goal.returns-in-Bad-clause-hears
 returns-in-Bad-clause-hears g c t before =
