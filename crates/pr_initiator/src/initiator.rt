@@ -1,8 +1,8 @@
-ghost use Rattle.std.specs.Prelude.{◌≡◌, ◌≤◌, [], IfErr, IfOk, length};
+ghost use Rattle.std.specs.Prelude.{◌≡◌, ◌≤◌, [], IfErr, IfOk, OnErr, OnOk, length};
 ghost use Rattle.pr_words.specs.declared.limits.TheConstants.{DATA, HELD};
 ghost use Rattle.pr_grammar.specs.Frames.{spelled};
 ghost use Rattle.pr_io.specs.Causes.{Rose};
-ghost use Rattle.pr_io.specs.Talks.{Dials};
+ghost use Rattle.pr_io.specs.Talks.{Begins};
 ghost use Rattle.pr_link.specs.Requests.{request_frame, data_out_of};
 ghost use Rattle.pr_link.specs.declared.request.Request.TheVariants as request;
 ghost use Rattle.pr_initiator.specs.Answering.{Asks};
@@ -143,6 +143,98 @@ impl<W: Wire + Drop> Initiator<W> {
             Ok(heard) => {
                 self.place = place.wrapping_add(heard.size as u64);
                 login_of(place, heard.reply)
+            }
+            Err(fault) => Err(fault),
+        }
+    }
+
+    /// Connects to the target with this address. The connection before is given up.
+    ///
+    /// # Errors
+    ///
+    /// `LinkFault::Down` where the wire failed, so also where there is no such target.
+    pub fn dial(&mut self, address: &str) -> Result<(), LinkFault>
+        ensures begins { OnOk result (Begins (W.talk self.old.wire) (W.talk self.new.wire)
+            address.now) }
+        ensures tag { OnOk result (self.new.tag ≡ 1) }
+        ensures place { OnOk result (self.new.place ≡ 0) }
+        ensures nothing { OnErr result (W.talk self.new.wire ≡ W.talk self.old.wire) }
+        ensures fault { IfErr result (λ e. e ≡ LinkFault.Down) }
+        ensures down { OnErr result (Rose (W.faults self.old.wire) (W.faults self.new.wire)) }
+    {
+        match self.wire.dial(address) {
+            Ok(()) => {
+                self.tag = 1;
+                self.place = 0;
+                Ok(())
+            }
+            Err(_) => Err(LinkFault::Down),
+        }
+    }
+
+    /// Logs the nexus out that is logged in.
+    ///
+    /// # Errors
+    ///
+    /// Where no reply counts.
+    pub fn logout(&mut self) -> Result<(), LinkFault>
+        ensures answers { Answers (logout_by self.old.place) 0x83 self.old.tag self.old.place
+            (W.talk self.old.wire) (W.talk self.new.wire)
+            (spelled (request_frame request.Logout 0 self.old.tag []))
+            result self.new.work.items }
+    {
+        let place = self.place;
+        let heard = ask_in(
+            &mut self.wire,
+            &mut self.work,
+            0x83,
+            self.tag,
+            place,
+            &Request::Logout,
+            &[],
+        );
+        self.tag = self.tag.wrapping_add(1);
+        match heard {
+            Ok(heard) => {
+                self.place = place.wrapping_add(heard.size as u64);
+                logout_of(place, heard.reply)
+            }
+            Err(fault) => Err(fault),
+        }
+    }
+
+    /// Sends a CDB of 1 to 16 bytes with its data-out, at most 524,288 bytes, once a nexus is logged
+    /// in.
+    ///
+    /// # Errors
+    ///
+    /// Where no reply counts.
+    pub fn command(&mut self, cdb: RawCdb, out: &[u8]) -> Result<Answer, LinkFault>
+        requires { length out.now ≤ DATA }
+        ensures answers { Answers (answer_by self.old.place) 0x82 self.old.tag self.old.place
+            (W.talk self.old.wire) (W.talk self.new.wire)
+            (spelled (request_frame (request.Command cdb (length out.now)) 0 self.old.tag out.now))
+            result self.new.work.items }
+    {
+        let request = Request::Command {
+            cdb,
+            data_out: out.len(),
+        };
+        let place = self.place;
+        let heard = ask_in(
+            &mut self.wire,
+            &mut self.work,
+            0x82,
+            self.tag,
+            place,
+            &request,
+            out,
+        );
+        self.tag = self.tag.wrapping_add(1);
+        match heard {
+            Ok(heard) => {
+                self.place = place.wrapping_add(heard.size as u64);
+                answer_of(place, heard.reply)
             }
             Err(fault) => Err(fault),
         }
