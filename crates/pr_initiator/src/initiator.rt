@@ -55,7 +55,8 @@ fn ask_in<W: Wire>(
 
 /// What a reply says of a Login.
 fn login_of(place: u64, reply: Result<Reply, SenseFault>) -> Result<(), LinkFault>
-    ensures { result ≡ login_by place reply }
+    ensures says { result ≡ login_by place reply }
+    ensures never { IfErr result (λ e. e ≡ LinkFault.Down → ⊥) }
 {
     match reply {
         Ok(Reply::Login { code: 0 }) => Ok(()),
@@ -66,7 +67,8 @@ fn login_of(place: u64, reply: Result<Reply, SenseFault>) -> Result<(), LinkFaul
 
 /// What a reply says of a Logout.
 fn logout_of(place: u64, reply: Result<Reply, SenseFault>) -> Result<(), LinkFault>
-    ensures { result ≡ logout_by place reply }
+    ensures says { result ≡ logout_by place reply }
+    ensures never { IfErr result (λ e. e ≡ LinkFault.Down → ⊥) }
 {
     match reply {
         Ok(Reply::Logout) => Ok(()),
@@ -76,7 +78,8 @@ fn logout_of(place: u64, reply: Result<Reply, SenseFault>) -> Result<(), LinkFau
 
 /// What a reply says of a command.
 fn answer_of(place: u64, reply: Result<Reply, SenseFault>) -> Result<Answer, LinkFault>
-    ensures { result ≡ answer_by place reply }
+    ensures says { result ≡ answer_by place reply }
+    ensures never { IfErr result (λ e. e ≡ LinkFault.Down → ⊥) }
 {
     let (status, sense, len) = match reply {
         Ok(Reply::Good { data_in }) => (0x00, None, data_in),
@@ -126,6 +129,9 @@ impl<W: Wire + Drop> Initiator<W> {
             (W.talk self.old.wire) (W.talk self.new.wire)
             (spelled (request_frame (request.Login 1 nexus) 0 self.old.tag []))
             result self.new.work.items }
+        ensures later { W.faults self.old.wire ≤ W.faults self.new.wire }
+        ensures down { IfErr result (λ e. e ≡ LinkFault.Down →
+            Rose (W.faults self.old.wire) (W.faults self.new.wire)) }
     {
         let request = Request::Login { version: 1, nexus };
         let place = self.place;
@@ -182,6 +188,9 @@ impl<W: Wire + Drop> Initiator<W> {
             (W.talk self.old.wire) (W.talk self.new.wire)
             (spelled (request_frame request.Logout 0 self.old.tag []))
             result self.new.work.items }
+        ensures later { W.faults self.old.wire ≤ W.faults self.new.wire }
+        ensures down { IfErr result (λ e. e ≡ LinkFault.Down →
+            Rose (W.faults self.old.wire) (W.faults self.new.wire)) }
     {
         let place = self.place;
         let heard = ask_in(
@@ -215,6 +224,9 @@ impl<W: Wire + Drop> Initiator<W> {
             (W.talk self.old.wire) (W.talk self.new.wire)
             (spelled (request_frame (request.Command cdb (length out.now)) 0 self.old.tag out.now))
             result self.new.work.items }
+        ensures later { W.faults self.old.wire ≤ W.faults self.new.wire }
+        ensures down { IfErr result (λ e. e ≡ LinkFault.Down →
+            Rose (W.faults self.old.wire) (W.faults self.new.wire)) }
     {
         let request = Request::Command {
             cdb,

@@ -12,3 +12,6 @@ mod speaking;
 pub use answer::Answer;
 pub use initiator::Initiator;
 pub use link_fault::LinkFault;
+
+#[cfg(test)]
+mod tests;
