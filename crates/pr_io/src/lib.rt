@@ -48,3 +48,5 @@ pub use writing::{put_all, put_three, put_two};
 mod disk_tests;
 #[cfg(test)]
 mod tests;
+#[cfg(test)]
+mod wire_tests;

@@ -5,3 +5,4 @@ pub mod Calls
 pub mod Requests
 pub mod Replies
 pub mod ValueLaws
+pub mod Fronts

@@ -4,6 +4,7 @@
 mod bodies;
 mod deframer;
 mod frame;
+mod front;
 mod laws;
 mod layout;
 mod raw_cdb;
@@ -17,6 +18,7 @@ mod writing;
 
 pub use deframer::Deframer;
 pub use frame::{Frame, Got};
+pub use front::Front;
 pub use laws::{
     cuts_are_alike, read_is_written, replies_are_the_same, replies_keep_the_rules,
     requests_are_read_back, requests_are_the_same, written_is_read,

@@ -1,0 +1,4 @@
+pub mod Going
+pub mod Fronting
+pub mod HeardAfter
+pub mod Judgings

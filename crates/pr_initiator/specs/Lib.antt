@@ -1,0 +1,6 @@
+pub mod Goings
+pub mod Hearing
+pub mod Asking
+pub mod Judging
+pub mod Answering
+pub mod Calls

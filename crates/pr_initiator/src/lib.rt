@@ -1,0 +1,17 @@
+//! The client's end of the link: what an initiator asks a target, and what it is answered.
+#![tactic(auto)]
+
+mod answer;
+mod asking;
+mod initiator;
+mod judging;
+mod link_fault;
+mod receiving;
+mod speaking;
+
+pub use answer::Answer;
+pub use initiator::Initiator;
+pub use link_fault::LinkFault;
+
+#[cfg(test)]
+mod tests;
