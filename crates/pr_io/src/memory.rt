@@ -1,4 +1,4 @@
-ghost use Rattle.std.specs.Prelude.{◌≡◌, ◌≤◌, ◌<◌, ◌+◌, ◌-◌, ◌/◌, ◌^◌, ◌↔◌, ◌⊎◌, Some, [], min, length, drop, IfOk, IsErr};
+ghost use Rattle.std.specs.Prelude.{None, ◌≡◌, ◌≤◌, ◌<◌, ◌+◌, ◌-◌, ◌/◌, ◌^◌, ◌↔◌, ◌⊎◌, Some, [], min, length, drop, IfOk, IsErr};
 ghost use Rattle.pr_io.specs.Blocks.{AreBlocks};
 ghost use Rattle.pr_io.specs.Calls.{IsToFail, next_call};
 ghost use Rattle.pr_io.specs.Causes.{HasCause, Rose};
@@ -225,6 +225,8 @@ impl Medium for MemMedium {
     ghost count = { λ s. length s.blocks.bytes.items / 512 };
 
     ghost contents = { λ s. Some (block_at s.blocks.bytes.items) };
+
+    ghost reference = { λ s. None };
 
     ghost faults = { λ s. s.faults.count };
 

@@ -1,4 +1,5 @@
-ghost use Rattle.std.specs.Prelude.{◌≡◌, ◌≤◌, ◌<◌, ◌^◌, ℕ, List, Option, length, IfOk};
+ghost use Rattle.std.specs.Prelude.{◌≡◌, ◌≤◌, ◌<◌, ◌^◌, ℕ, List, Option, Some, length, IfOk};
+ghost use Rattle.std.specs.Borrow.{GName};
 ghost use Rattle.pr_io.specs.Causes.{HasCause};
 ghost use Rattle.pr_io.specs.Contents.{ReadsBlock, WritesBlock};
 ghost use Rattle.pr_io.specs.Streams.{HasEnded, MovesInto, Reaches};
@@ -60,6 +61,9 @@ pub trait Medium {
     /// The bytes of each block, where they are told.
     ghost contents: { Self → Option (ℕ → List ℕ) };
 
+    /// Which reference the medium is, where it is one; no call changes that.
+    ghost reference: { Self → Option GName };
+
     /// How often the medium has failed.
     ghost faults: { Self → ℕ };
 
@@ -79,6 +83,7 @@ pub trait Medium {
         ensures given { ReadsBlock (contents self.old) lba result block.new }
         ensures contents { contents self.new ≡ contents self.old }
         ensures count { count self.new ≡ count self.old }
+        ensures reference { reference self.new ≡ reference self.old }
         ensures cause { HasCause (faults self.old) (faults self.new) result };
 
     /// Writes the block with this address.
@@ -91,6 +96,7 @@ pub trait Medium {
         ensures contents { WritesBlock (contents self.old)
             (contents self.new) lba result block.now }
         ensures count { count self.new ≡ count self.old }
+        ensures reference { reference self.new ≡ reference self.old }
         ensures cause { HasCause (faults self.old) (faults self.new) result };
 
     /// How often the medium has failed so far. The count stands still at 2^64 - 1.
@@ -132,6 +138,8 @@ impl<M: Medium> Medium for &mut M {
     ghost count = { λ m. M.count m.now };
 
     ghost contents = { λ m. M.contents m.now };
+
+    ghost reference = { λ m. Some m.ghost_name };
 
     ghost faults = { λ m. M.faults m.now };
 

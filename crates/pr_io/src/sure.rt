@@ -85,6 +85,8 @@ impl Medium for SureMedium {
 
     ghost contents = { λ s. Some (block_at s.blocks.bytes.items) };
 
+    ghost reference = { λ s. None };
+
     ghost faults = { λ _. 0 };
 
     fn blocks(&self) -> u64 {

@@ -65,6 +65,13 @@ impl Task {
         self.aborted = true;
     }
 
+    /// Which way it moves blocks.
+    pub fn way(&self) -> Way
+        ensures { result ≡ self.now.way }
+    {
+        self.way
+    }
+
     /// How many blocks are left to move.
     pub fn left(&self) -> u32
         ensures { result ≡ self.now.count - self.now.done }
@@ -89,6 +96,7 @@ impl Task {
         ensures spent { self.old.done ≡ self.old.count → (medium.new ≡ medium.old)
             × (block.new ≡ block.old) }
         ensures count { M.count medium.new ≡ M.count medium.old }
+        ensures reference { M.reference medium.new ≡ M.reference medium.old }
         ensures cause { HasCause (M.faults medium.old) (M.faults medium.new) (answered result) }
     {
         if self.aborted {
