@@ -131,7 +131,8 @@ fn check_no_data(sent: &[u8], admitted: Admitted) -> Result<Admitted, Code>
 
 /// The checks of an INQUIRY.
 fn check_inquiry(vital: bool, page: u8, allocation: u16, sent: &[u8]) -> Result<Admitted, Code>
-    ensures { (blocks : ℕ) → PassesCommand blocks (Command.Inquiry vital page allocation) sent.now result }
+    ensures { (blocks : ℕ) →
+        PassesCommand blocks (Command.Inquiry vital page allocation) sent.now result }
 {
     if !has_inquiry_data(vital, page) {
         return Err(Code::INVALID_FIELD_IN_CDB);
@@ -157,7 +158,8 @@ fn has_inquiry_data(vital: bool, page: u8) -> bool
 
 /// The checks of a READ CAPACITY(16).
 fn check_capacity16(action: u8, allocation: u32, sent: &[u8]) -> Result<Admitted, Code>
-    ensures { (blocks : ℕ) → PassesCommand blocks (Command.ReadCapacity16 action allocation) sent.now result }
+    ensures { (blocks : ℕ) →
+        PassesCommand blocks (Command.ReadCapacity16 action allocation) sent.now result }
 {
     if action != 0x10 {
         return Err(Code::INVALID_FIELD_IN_CDB);
@@ -168,7 +170,8 @@ fn check_capacity16(action: u8, allocation: u32, sent: &[u8]) -> Result<Admitted
 
 /// The checks of a REPORT LUNS.
 fn check_luns(select: u8, allocation: u32, sent: &[u8]) -> Result<Admitted, Code>
-    ensures { (blocks : ℕ) → PassesCommand blocks (Command.ReportLuns select allocation) sent.now result }
+    ensures { (blocks : ℕ) →
+        PassesCommand blocks (Command.ReportLuns select allocation) sent.now result }
 {
     if !has_report(select) {
         return Err(Code::INVALID_FIELD_IN_CDB);
@@ -217,7 +220,8 @@ fn check_synchronize(lba: u32, count: u16, sent: &[u8], blocks: u64) -> Result<A
 
 /// The checks of a PERSISTENT RESERVE IN.
 fn check_reserve_in(action: u8, allocation: u16, sent: &[u8]) -> Result<Admitted, Code>
-    ensures { (blocks : ℕ) → PassesCommand blocks (Command.ReserveIn action allocation) sent.now result }
+    ensures { (blocks : ℕ) →
+        PassesCommand blocks (Command.ReserveIn action allocation) sent.now result }
 {
     let Some(service) = InService::of(action) else {
         return Err(Code::INVALID_FIELD_IN_CDB);
@@ -237,7 +241,8 @@ fn check_reserve_out(
     length: u32,
     sent: &[u8],
 ) -> Result<Admitted, Code>
-    ensures { (blocks : ℕ) → PassesCommand blocks (Command.ReserveOut action scope kind length) sent.now result }
+    ensures { (blocks : ℕ) →
+        PassesCommand blocks (Command.ReserveOut action scope kind length) sent.now result }
 {
     let Some(service) = OutService::of(action) else {
         return Err(Code::INVALID_FIELD_IN_CDB);

@@ -1,5 +1,5 @@
 -- Turns that make room: what waits behind a full buffer goes on waiting behind what is left of it.
-use Rattle.std.proofs.Common.{◌≡◌, ℕ, suc, zero, ◌+◌, ◌≤◌, ◌<◌, Bool, true, false, cond, eqb, List, [], ◌++◌, length, refl, sym, ap, ◌∙◌, append_assoc, subst, arith}
+use Rattle.std.proofs.Common.{◌≡◌, ◌⊎◌, inl, inr, ℕ, suc, zero, ◌+◌, ◌≤◌, ◌<◌, Bool, true, false, cond, eqb, List, [], ◌++◌, length, refl, sym, ap, ◌∙◌, append_assoc, subst, arith}
 use Rattle.std.proofs.lemmas.List.{append-nil, length-drop}
 use std.Path.{fun_ext}
 use Rattle.pr_words.specs.declared.nexus.Nexus.{Nexus}
@@ -210,3 +210,24 @@ room_at who l m (In n) bytes reply place es full awaits makes = frame_room who l
 
 pub room_made : (who : ℕ) (l m : Lane) (es : History) (reply : List ℕ) → length l.bytes ≡ HELD → AwaitsFrame l.phase → Makes who l (turn l) es reply m → MadeRoom m
 room_made who l m es reply full awaits makes = room_at who l m l.phase l.bytes reply l.place es full awaits makes
+
+-- a step of a task leaves the bytes that wait, and the lane lives but where the outcome is none of a step
+pub step_keeps : (who : ℕ) (l m : Lane) (n : Nexus) (j : Job) (es : History) (reply : List ℕ) → l.phase ≡ Busy n j → Makes who l (turn l) es reply m → (m.phase ≡ Dead) ⊎ (m.bytes ≡ l.bytes)
+step_keeps who l m n j es reply busy makes = by l.phase busy makes
+  where
+    ended : (out : Out) → ((after_step n j l.bytes l.place out).lane.phase ≡ Dead) ⊎ ((after_step n j l.bytes l.place out).lane.bytes ≡ l.bytes)
+    ended Wrote = inr refl
+    ended (Read b) = inr refl
+    ended Done = inr refl
+    ended Aborted = inr refl
+    ended (Fault c) = inr refl
+    ended (Login_code c) = inl refl
+    ended (Ended s e d) = inl refl
+    ended (Started way) = inl refl
+    ended Left = inl refl
+    ended (Restored v) = inl refl
+
+    by : (p : Phase) → p ≡ Busy n j → Makes who l (turn_by p l.bytes l.place) es reply m → (m.phase ≡ Dead) ⊎ (m.bytes ≡ l.bytes)
+    by p is made =
+        let here : Makes who l (turn_by (Busy n j) l.bytes l.place) es reply m = subst (λ (q : Phase). Makes who l (turn_by q l.bytes l.place) es reply m) is made in
+        subst (λ (x : Lane). (x.phase ≡ Dead) ⊎ (x.bytes ≡ l.bytes)) (sym here.3) (ended here.0)
