@@ -18,7 +18,7 @@ use Rattle.pr_model.specs.Worlds.{World}
 use Rattle.pr_model.specs.Commands.{Answer, answer, checking, refused_where, first_or, has_bad_service, has_bad_list, length_check, form_checks, command_checks, list_length_error, invalid_list}
 use Rattle.pr_core.specs.declared.admitted.Admitted.TheVariants as admitted
 use Rattle.pr_core.specs.declared.admitted.Admitted.{Admitted}
-use Rattle.pr_core.specs.Passing.{Pass, Give, Carries, FitsIn, PassesForm, PassesCommand, PassesCdb, PassesTransfer}
+use Rattle.pr_core.specs.Passing.{Pass, Give, Carries, FitsIn, HasData, PassesForm, PassesCommand, PassesCdb, PassesTransfer}
 
 -- checks, and then others
 pub first-append : (xs ys : List (Option Answer)) (last : Answer) → first_or (xs ++ ys) last ≡ first_or xs (first_or ys last)
@@ -68,6 +68,7 @@ list_passes blocks action scope kind len sent service list r good transient = (
   (len, ap (λ (a : ℕ). ReserveOut a scope kind len) (sym r.named), (read_parts (length sent == 24) (Length (length sent)) list (list_of sent) r.read).1),
   tt,
   λ w count last. past_length action scope kind len sent service list w last r ∙ (rw (good, transient) refl),
+  tt,
 )
 
 pub list_fails : (blocks action scope kind len : ℕ) (sent : List ℕ) (service : OutService) (list : OutList) → ReadsList action scope kind len sent service list → (bad : Bool) → has_bad_list (out_service_code service) list ≡ bad → (bad ≡ true) ⊎ (list.aptpl ≡ true)
@@ -89,12 +90,12 @@ list_fails blocks action scope kind len sent service list r bad is fails = (
 -- READ and WRITE
 pub read_passes : (blocks : ℕ) (wide : Bool) (protect lba count : ℕ) (sent : List ℕ) (r : Result Admitted Code) → PassesTransfer blocks ways.Read protect lba count 0 sent r → PassesCommand blocks (Read wide protect lba count) sent r
 read_passes blocks wide protect lba count sent (Ok a) passes =
-    (subst (λ (x : Admitted). Carries (Read wide protect lba count) sent x) (sym passes.0) refl, subst (FitsIn blocks) (sym passes.0) (passes.1, refl), passes.2)
+    (subst (λ (x : Admitted). Carries (Read wide protect lba count) sent x) (sym passes.0) refl, subst (FitsIn blocks) (sym passes.0) (passes.1, refl), passes.2, subst (HasData sent) (sym passes.0) passes.3)
 read_passes blocks wide protect lba count sent (Err c) fails = fails
 
 pub write_passes : (blocks : ℕ) (wide : Bool) (protect lba count : ℕ) (sent : List ℕ) (r : Result Admitted Code) → PassesTransfer blocks ways.Write protect lba count (block_length * count) sent r → PassesCommand blocks (Write wide protect lba count) sent r
 write_passes blocks wide protect lba count sent (Ok a) passes =
-    (subst (λ (x : Admitted). Carries (Write wide protect lba count) sent x) (sym passes.0) refl, subst (FitsIn blocks) (sym passes.0) (passes.1, refl), passes.2)
+    (subst (λ (x : Admitted). Carries (Write wide protect lba count) sent x) (sym passes.0) refl, subst (FitsIn blocks) (sym passes.0) (passes.1, refl), passes.2, subst (HasData sent) (sym passes.0) passes.3)
 write_passes blocks wide protect lba count sent (Err c) fails = fails
 
 -- a CDB whose form fails, and one whose command passes or fails
@@ -106,7 +107,7 @@ pub command_decides : (blocks : ℕ) (o : OperationCode) (cdb sent : List ℕ) (
 command_decides blocks o cdb sent command r formed passes = by r (subst (λ (k : Command). PassesCommand blocks k sent r) formed.0 passes)
   where
     by : (r : Result Admitted Code) → PassesCommand blocks (command_by o cdb) sent r → PassesCdb blocks o cdb sent r
-    by (Ok a) own = (own.0, own.1, λ w count last. passed (form_checks w (operation_code cdb) cdb) (command_checks w (command_by o cdb) sent) last (formed.1 w) ∙ own.2 w count last)
+    by (Ok a) own = (own.0, own.1, λ w count last. passed (form_checks w (operation_code cdb) cdb) (command_checks w (command_by o cdb) sent) last (formed.1 w) ∙ own.2 w count last, own.3)
     by (Err c) own = (own.0, λ w count last. passed (form_checks w (operation_code cdb) cdb) (command_checks w (command_by o cdb) sent) last (formed.1 w) ∙ own.1 w count last)
 
 -- a refusal that is handed on is the same

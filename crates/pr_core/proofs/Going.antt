@@ -1,5 +1,5 @@
 -- What commands make of how far tasks have come.
-use Rattle.std.proofs.Common.{◌≡◌, ℕ, Bool, true, false, cond, Option, Some, None, option_map, is_some, refl, sym, ap, ◌∙◌, unwrap_or}
+use Rattle.std.proofs.Common.{◌≡◌, ℕ, Bool, true, false, cond, List, length, take, ◌≤◌, arith, Option, Some, None, option_map, is_some, refl, sym, ap, ◌∙◌, unwrap_or}
 use Rattle.pr_words.specs.declared.nexus.Nexus.{Nexus}
 use Rattle.pr_words.specs.declared.task.Way.{Way}
 use Rattle.pr_words.specs.Orders.{same_nexus}
@@ -11,7 +11,12 @@ use Rattle.pr_core.specs.declared.answers.CommandOut.{CommandOut}
 use Rattle.pr_core.specs.declared.answers.CommandOut.TheVariants as outs
 use Rattle.pr_core.specs.Seats.{owner_in, task_in}
 use Rattle.pr_core.specs.States.{Progress, owner_at, progress_at, progress_in, TasksStay, KeepsOthersAt}
-use Rattle.pr_core.specs.Outs.{Begins, IsEnded}
+use Rattle.std.proofs.lemmas.List.{length-take}
+use Rattle.pr_core.specs.declared.admitted.Admitted.{Admitted}
+use Rattle.pr_core.specs.declared.admitted.Admitted.TheVariants as admitted
+use Rattle.pr_core.specs.Feeding.{announced}
+use Rattle.pr_core.specs.Passing.{HasData, IsBegun}
+use Rattle.pr_core.specs.Outs.{Begins, IsEnded, IsFed}
 use Rattle.pr_core.specs.Stepping.{with_task}
 use Rattle.pr_core.proofs.StateLaws.{elsewhere, at_same}
 
@@ -73,3 +78,30 @@ progress_is t way count e f g =
     ap (λ (w : Way). Some (record { way = w; count = t.count; done = t.done })) (sym e)
     ∙ ap (λ (k : ℕ). Some (record { way = way; count = k; done = t.done })) (sym f)
     ∙ ap (λ (k : ℕ). Some (record { way = way; count = count; done = k })) g
+
+-- the data-out of a task that has begun
+
+pub ended_fed : (r : CommandOut) (size : ℕ) → IsEnded r → IsFed r size
+ended_fed (outs.Ended s sense len) size ended = tt
+ended_fed (outs.Started way count) size ended = absurd ended
+
+pub ended_begun : (r : CommandOut) (a : Admitted) → IsEnded r → IsBegun a r
+ended_begun (outs.Ended s sense len) a ended = tt
+ended_begun (outs.Started way count) a ended = absurd ended
+
+pub begun_fed : (r : CommandOut) (a : Admitted) (sent : List ℕ) (size : ℕ) → IsBegun a r → HasData sent a → length sent ≡ size → IsFed r size
+begun_fed (outs.Ended s sense len) a sent size begun fed is = tt
+begun_fed (outs.Started way count) (admitted.Transfer t) sent size begun fed is =
+    sym is ∙ fed ∙ ap (λ (w : Way). announced w t.count) (sym begun.0) ∙ ap (announced way) (sym begun.1)
+begun_fed (outs.Started way count) admitted.TestUnitReady sent size begun fed is = absurd begun
+begun_fed (outs.Started way count) (admitted.RequestSense descriptor allocation) sent size begun fed is = absurd begun
+begun_fed (outs.Started way count) (admitted.Inquiry vital page allocation) sent size begun fed is = absurd begun
+begun_fed (outs.Started way count) admitted.ReadCapacity10 sent size begun fed is = absurd begun
+begun_fed (outs.Started way count) (admitted.ReadCapacity16 allocation) sent size begun fed is = absurd begun
+begun_fed (outs.Started way count) (admitted.ReportLuns select allocation) sent size begun fed is = absurd begun
+begun_fed (outs.Started way count) admitted.SynchronizeCache sent size begun fed is = absurd begun
+begun_fed (outs.Started way count) (admitted.ReserveIn service allocation) sent size begun fed is = absurd begun
+begun_fed (outs.Started way count) (admitted.ReserveOut request list) sent size begun fed is = absurd begun
+
+pub taken_long : (size : ℕ) (bytes : List ℕ) → size ≤ length bytes → length (take size bytes) ≡ size
+taken_long size bytes within = omega (arith, length-take size bytes, within)

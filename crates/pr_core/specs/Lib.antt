@@ -3,6 +3,7 @@ pub mod Seats
 pub mod Telling
 pub mod Fitting
 pub mod Stepping
+pub mod Feeding
 pub mod States
 pub mod Outs
 pub mod Passing

@@ -9,6 +9,7 @@ use Rattle.pr_model.specs.Entries.{Out, Ended, Started, Wrote, Read, Done, Abort
 use Rattle.pr_tasks.specs.declared.step_out.StepOut.{StepOut}
 use Rattle.pr_tasks.specs.declared.step_out.StepOut.TheVariants as steps
 use Rattle.pr_core.specs.States.{Progress}
+use Rattle.pr_core.specs.Feeding.{announced}
 use Rattle.pr_core.specs.declared.answers.CommandOut.{CommandOut}
 use Rattle.pr_core.specs.declared.answers.CommandOut.TheVariants as outs
 
@@ -33,6 +34,11 @@ IsProper (outs.Started way count) = (0 < count) × (count ≤ TRANSFER)
 abbrev pub Begins : CommandOut → Option Progress → Type 0
 Begins (outs.Ended s sense len) now = now ≡ None
 Begins (outs.Started way count) now = now ≡ Some (record { way = way; count = count; done = 0 })
+
+-- a READ or WRITE that has begun came with the data-out of its blocks
+abbrev pub IsFed : CommandOut → ℕ → Type 0
+IsFed (outs.Ended s sense len) size = Unit {0}
+IsFed (outs.Started way count) size = size ≡ announced way count
 
 -- no task has begun
 abbrev pub IsEnded : CommandOut → Type 0

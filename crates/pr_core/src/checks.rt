@@ -1,6 +1,6 @@
 //! The checks of a command, in their order: each answers the code of its refusal.
 
-ghost use Rattle.std.specs.Prelude.{◌≡◌, ◌<◌, ℕ, Some, is_some, true, length};
+ghost use Rattle.std.specs.Prelude.{◌≡◌, ◌<◌, ℕ, Some, is_some, true, length, OnOk};
 ghost use Rattle.pr_words.specs.Services.{out_service_code};
 ghost use Rattle.pr_grammar.specs.Operations.{operation_at, unconditional_in};
 ghost use Rattle.pr_grammar.specs.Cdbs.{operation_code};
@@ -60,7 +60,8 @@ fn check_form(operation: OperationCode, cdb: &[u8]) -> Result<Command, Code>
 
 /// The check of the data-out's length.
 fn check_length(announced: usize, sent: &[u8]) -> Result<(), Code>
-    ensures { PassesLength announced sent.now result }
+    ensures passes { PassesLength announced sent.now result }
+    ensures size { OnOk result (length sent.now ≡ announced) }
 {
     if sent.len() == announced {
         Ok(())

@@ -10,9 +10,9 @@ ghost use Rattle.pr_model.specs.Entries.{entry, Command as Commands};
 ghost use Rattle.pr_table.specs.Tables.{standing_of};
 ghost use Rattle.pr_table.specs.Told.{requested};
 ghost use Rattle.pr_core.specs.Seats.{seat_of};
-ghost use Rattle.pr_core.specs.Outs.{out_of, IsProper, IsEnded, Begins};
+ghost use Rattle.pr_core.specs.Outs.{out_of, IsProper, IsEnded, IsFed, Begins};
 ghost use Rattle.pr_core.specs.Fitting.{Fits};
-ghost use Rattle.pr_core.specs.Passing.{FitsIn};
+ghost use Rattle.pr_core.specs.Passing.{FitsIn, IsBegun};
 ghost use Rattle.pr_core.specs.Admits.{PassesAttention, PassesUnit, Serves, Senses, Reserves};
 
 use crate::admitted::Admitted;
@@ -49,6 +49,7 @@ impl State {
             (Commands lun cdb.now (take out_len buf.old)) (out_of result buf.new)) }
         ensures owner { owner_at self.new ≡ owner_at self.old }
         ensures begins { Begins result (progress_at self.new nexus) }
+        ensures fed { IsFed result out_len }
         ensures others { TasksStay nexus self.old self.new }
         ensures blocks { self.new.blocks ≡ self.old.blocks }
         ensures proper { IsProper result }
@@ -137,6 +138,7 @@ impl State {
         requires fits { FitsIn self.old.blocks admitted }
         requires room { 524288 ≤ length buf.old }
         ensures serves { Serves self.old self.new nexus lun admitted result buf.new }
+        ensures begun { IsBegun admitted result }
         ensures owner { owner_at self.new ≡ owner_at self.old }
         ensures begins { Begins result (progress_at self.new nexus) }
         ensures others { TasksStay nexus self.old self.new }
@@ -181,6 +183,7 @@ impl State {
         requires fresh { task ≡ new_task task.way task.lba task.count }
         ensures serves { (lun : ℕ) (buf : List ℕ) → Serves self.old self.new nexus lun
             (Admitted.Transfer task) result buf }
+        ensures begun { IsBegun (Admitted.Transfer task) result }
         ensures owner { owner_at self.new ≡ owner_at self.old }
         ensures begins { Begins result (progress_at self.new nexus) }
         ensures others { TasksStay nexus self.old self.new }

@@ -3,7 +3,7 @@ ghost use Rattle.pr_model.specs.Worlds.{Blocks, opened};
 ghost use Rattle.pr_model.specs.Keeping.{Nothing};
 ghost use Rattle.pr_model.specs.Entries.{entry, Login, Command, Step, Logout, Login_code, Left};
 ghost use Rattle.pr_model.specs.Histories.{AreBlocksOf};
-ghost use Rattle.pr_core.specs.Outs.{out_of, step_out, IsCarried, IsProper, Begins, Progresses};
+ghost use Rattle.pr_core.specs.Outs.{out_of, step_out, IsCarried, IsFed, IsProper, Begins, Progresses};
 
 use crate::answers::{CommandOut, OpenFault};
 use crate::seats::Seats;
@@ -181,6 +181,7 @@ impl<M: Medium, D: Disk> Core<M, D> {
             ∷ []) }
         ensures owner { owner_of self.new ≡ owner_of self.old }
         ensures begins { Begins result (progress_of self.new nexus) }
+        ensures fed { IsFed result out_len }
         ensures others { KeepsOthers who self.old self.new }
         ensures proper { IsProper result }
     {

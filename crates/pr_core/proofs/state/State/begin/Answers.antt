@@ -44,3 +44,7 @@ returns-clause-begins c =
 pub returns-clause-others : goal.returns-clause-others
 returns-clause-others c =
     set_stays (seat_of c.args.self.now.seats) (seat_of c.begin.new.self) c.args.nexus (option_map (with_task (Some c.args.task)) (seat_of c.args.self.now.seats c.args.nexus)) c.begin.ensures.seat
+
+pub returns-clause-begun : goal.returns-clause-begun
+returns-clause-begun c =
+    let none : c.args.task.done ≡ 0 = ap (λ (x : Task). x.done) c.requires.fresh in (c.way-way.ensures, omega (arith, c.left-count.ensures, none))

@@ -1,9 +1,9 @@
 use Rattle.std.proofs.Common.{take, ap, ◌∙◌, sym, subst}
 use Rattle.pr_core.specs.declared.answers.CommandOut.{CommandOut}
 use Rattle.pr_core.specs.States.{progress_at}
-use Rattle.pr_core.specs.Outs.{out_of, Begins}
+use Rattle.pr_core.specs.Outs.{out_of, Begins, IsFed}
 use Rattle.pr_core.proofs.Admitting.{enters_unit, enters_conflict, enters_cdb, enters_served}
-use Rattle.pr_core.proofs.Going.{ended_begins, same_tasks, same_idle, tasks_more}
+use Rattle.pr_core.proofs.Going.{ended_begins, ended_fed, begun_fed, taken_long, same_tasks, same_idle, tasks_more}
 use Rattle.pr_core.proofs.state.State.command.Goals as goal
 
 pub returns-in-Err-clause-enters : goal.returns-in-Err-clause-enters
@@ -49,3 +49,16 @@ returns-in-Err-check_cdb-clause-begins c = ended_begins _ _ c.checking-in-Err-ch
 
 pub returns-in-Err-check_cdb-clause-others : goal.returns-in-Err-check_cdb-clause-others
 returns-in-Err-check_cdb-clause-others c = same_tasks c.args.nexus c.args.self.now c.check_unit.new.self c.check_unit.ensures.progress
+
+pub returns-in-Err-clause-fed : goal.returns-in-Err-clause-fed
+returns-in-Err-clause-fed c = ended_fed _ _ c.checking.ensures.ended
+
+pub returns-then-is_forbidden-clause-fed : goal.returns-then-is_forbidden-clause-fed
+returns-then-is_forbidden-clause-fed c = subst (λ (r : CommandOut). IsFed r c.args.out_len) (sym c.conflict.ensures) tt
+
+pub returns-in-Err-check_cdb-clause-fed : goal.returns-in-Err-check_cdb-clause-fed
+returns-in-Err-check_cdb-clause-fed c = ended_fed _ _ c.checking-in-Err-check_cdb.ensures.ended
+
+pub returns-in-Ok-check_cdb-clause-fed : goal.returns-in-Ok-check_cdb-clause-fed
+returns-in-Ok-check_cdb-clause-fed c =
+    begun_fed c.serve.result c.in-Ok-check_cdb.admitted (take c.args.out_len c.args.buf.now) c.args.out_len c.serve.ensures.begun c.in-Ok-check_cdb.ensures.3 (taken_long c.args.out_len c.args.buf.now c.requires.sent)
