@@ -1,5 +1,5 @@
 -- Entries that a core makes, one after another.
-use Rattle.std.proofs.Common.{◌≡◌, ℕ, zero, suc, ◌+◌, List, Option, [], ◌∷◌, ◌++◌, refl, sym, ap, ◌∙◌, subst, arith}
+use Rattle.std.proofs.Common.{◌≡◌, ℕ, zero, suc, ◌+◌, ◌-◌, ◌^◌, ◌<◌, ◌≤◌, min, List, Option, [], ◌∷◌, ◌++◌, refl, sym, ap, ◌∙◌, subst, arith}
 use Rattle.std.proofs.Math.Nat.{ℕ_set}
 use Rattle.pr_words.specs.declared.nexus.Nexus.{Nexus}
 use Rattle.pr_model.specs.Entries.{Act, Out, Entry, History, entry, Login, Command, Step, Logout}
@@ -104,3 +104,19 @@ same_core {M} {D} {gm} {gd} c s size same = by s same size
 
     by : (s : State) → s ≡ c.state → (size : gm.count c.medium ≡ s.blocks) → record { medium = c.medium; disk = c.disk; opening = c.opening; state = s; size = size } ≡ c
     by s same = subst (λ (t : State). (size : gm.count c.medium ≡ t.blocks) → record { medium = c.medium; disk = c.disk; opening = c.opening; state = t; size = size } ≡ c) (sym same) (λ size. ap sized (ℕ_set _ _ size c.size))
+
+-- a count that doesn't stand at its end rose by as much as there were faults
+
+next_below : (limit count : ℕ) → min (count + 1) limit < limit → min (count + 1) limit ≡ count + 1
+next_below limit count less = omega (arith, less)
+
+grown : (k count : ℕ) → min count (2 ^ 64 - 1) ≤ faults_after k count
+grown zero count = omega arith
+grown (suc k) count = let more = grown k (next_fault count) in omega (arith, more)
+
+pub faults_rose : (k count : ℕ) → faults_after k count < 2 ^ 64 - 1 → faults_after k count ≡ count + k
+faults_rose zero count less = omega arith
+faults_rose (suc k) count less =
+    let rest : faults_after k (next_fault count) ≡ next_fault count + k = faults_rose k (next_fault count) less in
+    let low : next_fault count < 2 ^ 64 - 1 = omega (arith, rest, less) in
+    rest ∙ (let here : next_fault count ≡ count + 1 = next_below (2 ^ 64 - 1) count low in omega (arith, here))
