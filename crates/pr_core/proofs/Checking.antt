@@ -1,17 +1,24 @@
 -- Checks that pass or refuse, group by group.
-use Rattle.std.proofs.Common.{◌≡◌, ◌⊎◌, inl, inr, ℕ, ◌==◌, Bool, true, false, not, cond, List, [], ◌∷◌, ◌++◌, length, refl, sym, ap, ◌∙◌, subst, lit<, arith, Ok, Err, Option, Some, None}
+use Rattle.std.proofs.Common.{◌≡◌, ◌⊎◌, inl, inr, ℕ, ◌==◌, ◌*◌, Result, IsErr, IsErrAnd, Bool, true, false, not, cond, List, [], ◌∷◌, ◌++◌, length, refl, sym, ap, ◌∙◌, subst, lit<, arith, Ok, Err, Option, Some, None}
 use Rattle.std.proofs.lemmas.Bool.Decides.{nat_tests}
 use Rattle.pr_words.specs.declared.service.OutService.{OutService}
 use Rattle.pr_words.specs.Services.{out_service_code}
-use Rattle.pr_grammar.specs.declared.cdb.Command.TheVariants.{ReserveOut}
+use Rattle.pr_words.specs.declared.code.Code.{Code}
+use Rattle.pr_words.specs.declared.task.Way.TheVariants as ways
+use Rattle.pr_grammar.specs.declared.operation.OperationCode.{OperationCode}
+use Rattle.pr_grammar.specs.declared.cdb.Command.{Command}
+use Rattle.pr_grammar.specs.declared.cdb.Command.TheVariants.{Read, Write, ReserveOut}
+use Rattle.pr_grammar.specs.Pages.{block_length}
+use Rattle.pr_grammar.specs.Cdbs.{operation_code, command_by}
 use Rattle.pr_grammar.specs.declared.param.OutList.{OutList}
 use Rattle.pr_grammar.specs.declared.param.ParamFault.{ParamFault}
 use Rattle.pr_grammar.specs.declared.param.ParamFault.TheVariants.{Length}
 use Rattle.pr_grammar.specs.OutLists.{list_of, read_list}
 use Rattle.pr_model.specs.Worlds.{World}
-use Rattle.pr_model.specs.Commands.{Answer, answer, checking, refused_where, first_or, has_bad_service, has_bad_list, length_check, command_checks, list_length_error, invalid_list, served}
+use Rattle.pr_model.specs.Commands.{Answer, answer, checking, refused_where, first_or, has_bad_service, has_bad_list, length_check, form_checks, command_checks, list_length_error, invalid_list}
 use Rattle.pr_core.specs.declared.admitted.Admitted.TheVariants as admitted
-use Rattle.pr_core.specs.Passing.{Pass, Give, PassesCommand}
+use Rattle.pr_core.specs.declared.admitted.Admitted.{Admitted}
+use Rattle.pr_core.specs.Passing.{Pass, Give, Carries, FitsIn, HasData, PassesForm, PassesCommand, PassesCdb, PassesTransfer}
 
 -- checks, and then others
 pub first-append : (xs ys : List (Option Answer)) (last : Answer) → first_or (xs ++ ys) last ≡ first_or xs (first_or ys last)
@@ -55,25 +62,55 @@ past_length action scope kind len sent service list w last r =
     let fit : has_bad_service action scope kind ≡ false = subst (λ (a : ℕ). has_bad_service a scope kind ≡ false) r.named r.fit in
     rw (fit, long, whole, parts.1, r.named) refl
 
-pub list_passes : (action scope kind len : ℕ) (sent : List ℕ) (service : OutService) (list : OutList) → ReadsList action scope kind len sent service list → has_bad_list (out_service_code service) list ≡ false → list.aptpl ≡ false
-    → PassesCommand (ReserveOut action scope kind len) sent (Ok (admitted.ReserveOut (record { service = service; scope = scope; kind = kind }) list))
-list_passes action scope kind len sent service list r good transient = (
+pub list_passes : (blocks action scope kind len : ℕ) (sent : List ℕ) (service : OutService) (list : OutList) → ReadsList action scope kind len sent service list → has_bad_list (out_service_code service) list ≡ false → list.aptpl ≡ false
+    → PassesCommand blocks (ReserveOut action scope kind len) sent (Ok (admitted.ReserveOut (record { service = service; scope = scope; kind = kind }) list))
+list_passes blocks action scope kind len sent service list r good transient = (
   (len, ap (λ (a : ℕ). ReserveOut a scope kind len) (sym r.named), (read_parts (length sent == 24) (Length (length sent)) list (list_of sent) r.read).1),
-  λ w last. past_length action scope kind len sent service list w last r ∙ (rw (good, transient) refl),
+  tt,
+  λ w count last. past_length action scope kind len sent service list w last r ∙ (rw (good, transient) refl),
+  tt,
 )
 
-pub list_fails : (action scope kind len : ℕ) (sent : List ℕ) (service : OutService) (list : OutList) → ReadsList action scope kind len sent service list → (bad : Bool) → has_bad_list (out_service_code service) list ≡ bad → (bad ≡ true) ⊎ (list.aptpl ≡ true)
-    → PassesCommand (ReserveOut action scope kind len) sent (Err invalid_list)
-list_fails action scope kind len sent service list r bad is fails = (
+pub list_fails : (blocks action scope kind len : ℕ) (sent : List ℕ) (service : OutService) (list : OutList) → ReadsList action scope kind len sent service list → (bad : Bool) → has_bad_list (out_service_code service) list ≡ bad → (bad ≡ true) ⊎ (list.aptpl ≡ true)
+    → PassesCommand blocks (ReserveOut action scope kind len) sent (Err invalid_list)
+list_fails blocks action scope kind len sent service list r bad is fails = (
   lit< tt,
-  λ w n lun yet.
-      past_length action scope kind len sent service list w (served w n lun (ReserveOut action scope kind len) sent) r
-      ∙ ap (λ (b : Bool). first_or (refused_where b w invalid_list ∷ refused_where list.aptpl w invalid_list ∷ []) (served w n lun (ReserveOut action scope kind len) sent)) is
-      ∙ by w n lun bad fails,
+  λ w count last.
+      past_length action scope kind len sent service list w last r
+      ∙ ap (λ (b : Bool). first_or (refused_where b w invalid_list ∷ refused_where list.aptpl w invalid_list ∷ []) last) is
+      ∙ by w last bad fails,
 )
   where
-    by : (w : World) (n : _) (lun : ℕ) (b : Bool) → (b ≡ true) ⊎ (list.aptpl ≡ true)
-        → first_or (refused_where b w invalid_list ∷ refused_where list.aptpl w invalid_list ∷ []) (served w n lun (ReserveOut action scope kind len) sent) ≡ answer w (checking invalid_list)
-    by w n lun true f = refl
-    by w n lun false (inl e) = absurd cc
-    by w n lun false (inr e) = rw e refl
+    by : (w : World) (last : Answer) (b : Bool) → (b ≡ true) ⊎ (list.aptpl ≡ true)
+        → first_or (refused_where b w invalid_list ∷ refused_where list.aptpl w invalid_list ∷ []) last ≡ answer w (checking invalid_list)
+    by w last true f = refl
+    by w last false (inl e) = absurd cc
+    by w last false (inr e) = rw e refl
+
+-- READ and WRITE
+pub read_passes : (blocks : ℕ) (wide : Bool) (protect lba count : ℕ) (sent : List ℕ) (r : Result Admitted Code) → PassesTransfer blocks ways.Read protect lba count 0 sent r → PassesCommand blocks (Read wide protect lba count) sent r
+read_passes blocks wide protect lba count sent (Ok a) passes =
+    (subst (λ (x : Admitted). Carries (Read wide protect lba count) sent x) (sym passes.0) refl, subst (FitsIn blocks) (sym passes.0) (passes.1, refl), passes.2, subst (HasData sent) (sym passes.0) passes.3)
+read_passes blocks wide protect lba count sent (Err c) fails = fails
+
+pub write_passes : (blocks : ℕ) (wide : Bool) (protect lba count : ℕ) (sent : List ℕ) (r : Result Admitted Code) → PassesTransfer blocks ways.Write protect lba count (block_length * count) sent r → PassesCommand blocks (Write wide protect lba count) sent r
+write_passes blocks wide protect lba count sent (Ok a) passes =
+    (subst (λ (x : Admitted). Carries (Write wide protect lba count) sent x) (sym passes.0) refl, subst (FitsIn blocks) (sym passes.0) (passes.1, refl), passes.2, subst (HasData sent) (sym passes.0) passes.3)
+write_passes blocks wide protect lba count sent (Err c) fails = fails
+
+-- a CDB whose form fails, and one whose command passes or fails
+pub form_fails : (blocks : ℕ) (o : OperationCode) (cdb sent : List ℕ) (c : Code) → PassesForm o cdb (Err c) → PassesCdb blocks o cdb sent (Err c)
+form_fails blocks o cdb sent c fails =
+    (fails.0, λ w count last. given (form_checks w (operation_code cdb) cdb) (command_checks w (command_by o cdb) sent) (answer w (checking c)) last (fails.1 w))
+
+pub command_decides : (blocks : ℕ) (o : OperationCode) (cdb sent : List ℕ) (command : Command) (r : Result Admitted Code) → PassesForm o cdb (Ok command) → PassesCommand blocks command sent r → PassesCdb blocks o cdb sent r
+command_decides blocks o cdb sent command r formed passes = by r (subst (λ (k : Command). PassesCommand blocks k sent r) formed.0 passes)
+  where
+    by : (r : Result Admitted Code) → PassesCommand blocks (command_by o cdb) sent r → PassesCdb blocks o cdb sent r
+    by (Ok a) own = (own.0, own.1, λ w count last. passed (form_checks w (operation_code cdb) cdb) (command_checks w (command_by o cdb) sent) last (formed.1 w) ∙ own.2 w count last, own.3)
+    by (Err c) own = (own.0, λ w count last. passed (form_checks w (operation_code cdb) cdb) (command_checks w (command_by o cdb) sent) last (formed.1 w) ∙ own.1 w count last)
+
+-- a refusal that is handed on is the same
+pub err_is : {T E : Type 0} (r : Result T E) (c : E) → IsErr r × IsErrAnd r (λ e. e ≡ c) → r ≡ Err c
+err_is (Ok x) c is = absurd is.1
+err_is (Err e) c is = ap Err is.1

@@ -5,3 +5,7 @@ pub mod Checking
 pub mod Sitting
 pub mod Admitting
 pub mod Reserving
+pub mod Bare
+pub mod Going
+pub mod Tasked
+pub mod StepLaws

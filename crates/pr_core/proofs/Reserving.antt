@@ -28,13 +28,14 @@ use Rattle.pr_core.specs.declared.answers.CommandOut.{CommandOut}
 use Rattle.pr_core.specs.declared.answers.CommandOut.TheVariants as outs
 use Rattle.pr_core.specs.Outs.{out_of}
 use Rattle.pr_core.specs.Places.{seat_in}
-use Rattle.pr_core.specs.Seats.{seat_of, count_of, attentions_in, owner_in, Lists}
-use Rattle.pr_core.specs.Telling.{raised_where, told_seat}
-use Rattle.pr_core.specs.States.{world_with, Depicts}
+use Rattle.pr_core.specs.Seats.{seat_of, count_of, attentions_in, owner_in, task_in, Lists}
+use Rattle.pr_core.specs.Telling.{raised_where, told_seat, marked_seat}
+use Rattle.pr_core.specs.Fitting.{Fits, AllFit}
+use Rattle.pr_core.specs.States.{world_with, Depicts, progress_in}
 use Rattle.pr_core.specs.Admits.{Reserves}
 
 -- the seat of a nexus is its own
-seat_in_is : (seats : List Seat) (m : Nexus) (s : Seat) → seat_in seats m ≡ Some s → s.nexus ≡ m
+pub seat_in_is : (seats : List Seat) (m : Nexus) (s : Seat) → seat_in seats m ≡ Some s → s.nexus ≡ m
 seat_in_is [] m s is = absurd cc
 seat_in_is (t ∷ seats) m s is = by (same_nexus t.nexus m) refl is (seat_in_is seats m s)
   where
@@ -72,9 +73,39 @@ no_other f n ps m seated none = by (is_registered ps m) refl
     by true e = absurd (let is : is_some (f m) ≡ true = seated e in let not_so : is_some (f m) ≡ false = ap is_some none in cc)
     by false e = refl
 
+-- marking
+
+abbrev after_mark : Bool → List Pair → Nexus → Option Task → Option Task
+after_mark aborts gone m t = cond (aborts && is_registered gone m) (option_map aborted t) t
+
+-- the seat of a nexus that was told, and then marked
+abbrev pub both : Nexus → Acted → Bool → Option Seat → Option Seat
+both n a aborts o = option_map (marked_seat aborts a.removed) (option_map (told_seat n a.standing.pairs a.stay_code a.removed a.removed_code) o)
+
+both_some : (n : Nexus) (a : Acted) (aborts : Bool) (o : Option Seat) → is_some (both n a aborts o) ≡ is_some o
+both_some n a aborts None = refl
+both_some n a aborts (Some s) = refl
+
+both_owner : (n : Nexus) (a : Acted) (aborts : Bool) (o : Option Seat) → owner_in (both n a aborts o) ≡ owner_in o
+both_owner n a aborts None = refl
+both_owner n a aborts (Some s) = refl
+
+both_attentions : (n : Nexus) (a : Acted) (aborts : Bool) (o : Option Seat) → attentions_in (both n a aborts o) ≡ attentions_in (option_map (told_seat n a.standing.pairs a.stay_code a.removed a.removed_code) o)
+both_attentions n a aborts None = refl
+both_attentions n a aborts (Some s) = refl
+
+none_marked : (b : Bool) → cond b (option_map aborted None) None ≡ None
+none_marked true = refl
+none_marked false = refl
+
+both_task : (n : Nexus) (a : Acted) (aborts : Bool) (m : Nexus) (o : Option Seat) → ((s : Seat) → o ≡ Some s → s.nexus ≡ m) → task_in (both n a aborts o) ≡ after_mark aborts a.removed m (task_in o)
+both_task n a aborts m None own = sym (none_marked (aborts && is_registered a.removed m))
+both_task n a aborts m (Some s) own = ap (λ (k : Nexus). after_mark aborts a.removed k s.task) (own s refl)
+
 -- all seats are told, and their nexuses are all that there are to tell
 pub record Tells (f g : Nexus → Option Seat) (n : Nexus) (a : Acted) : Type 0 where
-  pub seat : (m : Nexus) → g m ≡ option_map (told_seat n a.standing.pairs a.stay_code a.removed a.removed_code) (f m)
+  pub aborts : Bool
+  pub seat : (m : Nexus) → g m ≡ both n a aborts (f m)
   pub own : (m : Nexus) (s : Seat) → f m ≡ Some s → s.nexus ≡ m
   pub stay : (m : Nexus) → is_registered a.standing.pairs m ≡ true → is_some (f m) ≡ true
   pub gone : (m : Nexus) → is_registered a.removed m ≡ true → is_some (f m) ≡ true
@@ -84,7 +115,7 @@ some_told h None = refl
 some_told h (Some s) = refl
 
 pub tells_some : (f g : Nexus → Option Seat) (n : Nexus) (a : Acted) → Tells f g n a → (m : Nexus) → is_some (g m) ≡ is_some (f m)
-tells_some f g n a tells m = ap is_some (tells.seat m) ∙ some_told (told_seat n a.standing.pairs a.stay_code a.removed a.removed_code) (f m)
+tells_some f g n a tells m = ap is_some (tells.seat m) ∙ both_some n a tells.aborts (f m)
 
 pub told_owner : (n : Nexus) (ps : List Pair) (c : Option Code) (qs : List Pair) (d : Option Code) (o : Option Seat) → owner_in (option_map (told_seat n ps c qs d) o) ≡ owner_in o
 told_owner n ps c qs d None = refl
@@ -94,21 +125,24 @@ owner_told : (n : Nexus) (a : Acted) (o : Option Seat) → owner_in (option_map 
 owner_told n a o = told_owner n a.standing.pairs a.stay_code a.removed a.removed_code o
 
 pub tells_owner : (f g : Nexus → Option Seat) (n : Nexus) (a : Acted) → Tells f g n a → (m : Nexus) → owner_in (g m) ≡ owner_in (f m)
-tells_owner f g n a tells m = ap owner_in (tells.seat m) ∙ owner_told n a (f m)
+tells_owner f g n a tells m = ap owner_in (tells.seat m) ∙ both_owner n a tells.aborts (f m)
+
+pub tells_task : (f g : Nexus → Option Seat) (n : Nexus) (a : Acted) (tells : Tells f g n a) → (m : Nexus) → task_in (g m) ≡ after_mark tells.aborts a.removed m (task_in (f m))
+tells_task f g n a tells m = ap task_in (tells.seat m) ∙ both_task n a tells.aborts m (f m) (tells.own m)
 
 attentions_told : (f g : Nexus → Option Seat) (n : Nexus) (a : Acted) → Tells f g n a → (m : Nexus) → attentions_in (g m) ≡ told n a (λ k. attentions_in (f k)) m
 attentions_told f g n a tells m = by (f m) refl
   where
     by : (o : Option Seat) → f m ≡ o → attentions_in (g m) ≡ told n a (λ k. attentions_in (f k)) m
     by None e =
-        ap attentions_in (tells.seat m) ∙ ap (λ (o : Option Seat). attentions_in (option_map (told_seat n a.standing.pairs a.stay_code a.removed a.removed_code) o)) e
+        ap attentions_in (tells.seat m) ∙ both_attentions n a tells.aborts (f m) ∙ ap (λ (o : Option Seat). attentions_in (option_map (told_seat n a.standing.pairs a.stay_code a.removed a.removed_code) o)) e
         ∙ sym (told_at n a (λ k. attentions_in (f k)) m
         ∙ not_raised (is_other n a.standing.pairs m) a.stay_code _ (no_other f n a.standing.pairs m (tells.stay m) e)
         ∙ not_raised (is_other n a.removed m) a.removed_code _ (no_other f n a.removed m (tells.gone m) e)
         ∙ ap attentions_in e)
     by (Some s) e =
         let here : s.nexus ≡ m = tells.own m s e in
-        ap attentions_in (tells.seat m) ∙ ap (λ (o : Option Seat). attentions_in (option_map (told_seat n a.standing.pairs a.stay_code a.removed a.removed_code) o)) e
+        ap attentions_in (tells.seat m) ∙ both_attentions n a tells.aborts (f m) ∙ ap (λ (o : Option Seat). attentions_in (option_map (told_seat n a.standing.pairs a.stay_code a.removed a.removed_code) o)) e
         ∙ ap (λ (k : Nexus). raised_where (is_other n a.standing.pairs k) a.stay_code (raised_where (is_other n a.removed k) a.removed_code s.attentions)) here
         ∙ sym (told_at n a (λ k. attentions_in (f k)) m
         ∙ ap (λ (o : Option Seat). raised_where (is_other n a.standing.pairs m) a.stay_code (raised_where (is_other n a.removed m) a.removed_code (attentions_in o))) e)
@@ -126,34 +160,27 @@ conflicting w n action a is = ap (λ (v : Verdicts). by_verdict w (next w n acti
 refused : (w : World) (n : Nexus) (action : ℕ) (a : Acted) (c : Code) → a.verdict ≡ Bad c → reserve_out w n action a ≡ answer w (checking c)
 refused w n action a c is = ap (λ (v : Verdicts). by_verdict w (next w n action a) v) is
 
--- where no task runs, none is marked
-none_marked : (action : ℕ) (removed : List Pair) → marked action removed (λ _. None) ≡ (λ _. None)
-none_marked action removed = fun_ext (λ m. by (action == 5 && is_registered removed m))
-  where
-    by : (b : Bool) → cond b (option_map aborted None) None ≡ None
-    by true = refl
-    by false = refl
-
 standing_in : (s : State) (w : World) → Depicts s w → w.standing ≡ standing_of s.table
 standing_in s w depicts = ap (λ (x : World). x.standing) depicts.world
 
-same_depicts : (old new : State) (w : World) → standing_of new.table ≡ standing_of old.table → new.seats ≡ old.seats → Depicts old w → Depicts new w
-same_depicts old new w standing seats depicts =
+same_depicts : (old new : State) (w : World) → standing_of new.table ≡ standing_of old.table → new.blocks ≡ old.blocks → new.seats ≡ old.seats → Depicts old w → Depicts new w
+same_depicts old new w standing blocks seats depicts =
     record {
       medium = depicts.medium;
+      blocks = depicts.blocks ∙ sym blocks;
       known = depicts.known;
       lists = rw seats depicts.lists;
       world = depicts.world ∙ rw (standing, seats) refl;
     }
 
-pub reserves_conflict : (old new : State) (n : Nexus) (o : ReserveOut) (result : CommandOut) → standing_of new.table ≡ standing_of old.table → new.seats ≡ old.seats → (acted LIMIT (standing_of old.table) n o).verdict ≡ Conflict → result ≡ outs.Ended status.ReservationConflict None 0 → Reserves old new n o result
-reserves_conflict old new n o result standing seats is told w depicts =
-    (w, same_depicts old new w standing seats depicts, λ buf. ap (λ (s : Standing). reserve_out w n o.action (acted LIMIT s n o)) (standing_in old w depicts) ∙ conflicting w n o.action (acted LIMIT (standing_of old.table) n o) is ∙ ap (λ (r : CommandOut). answer w (out_of r buf)) (sym told))
+pub reserves_conflict : (old new : State) (n : Nexus) (o : ReserveOut) (result : CommandOut) → standing_of new.table ≡ standing_of old.table → new.blocks ≡ old.blocks → new.seats ≡ old.seats → (acted LIMIT (standing_of old.table) n o).verdict ≡ Conflict → result ≡ outs.Ended status.ReservationConflict None 0 → Reserves old new n o result
+reserves_conflict old new n o result standing blocks seats is told w depicts =
+    (w, same_depicts old new w standing blocks seats depicts, λ buf. ap (λ (s : Standing). reserve_out w n o.action (acted LIMIT s n o)) (standing_in old w depicts) ∙ conflicting w n o.action (acted LIMIT (standing_of old.table) n o) is ∙ ap (λ (r : CommandOut). answer w (out_of r buf)) (sym told))
 
-pub reserves_bad : (old new : State) (n : Nexus) (o : ReserveOut) (c : Code) (result : CommandOut) → standing_of new.table ≡ standing_of old.table → new.seats ≡ old.seats → (acted LIMIT (standing_of old.table) n o).verdict ≡ Bad c → ((buf : List ℕ) → out_of result buf ≡ checking c) → Reserves old new n o result
-reserves_bad old new n o c result standing seats is out w depicts = (
+pub reserves_bad : (old new : State) (n : Nexus) (o : ReserveOut) (c : Code) (result : CommandOut) → standing_of new.table ≡ standing_of old.table → new.blocks ≡ old.blocks → new.seats ≡ old.seats → (acted LIMIT (standing_of old.table) n o).verdict ≡ Bad c → ((buf : List ℕ) → out_of result buf ≡ checking c) → Reserves old new n o result
+reserves_bad old new n o c result standing blocks seats is out w depicts = (
   w,
-  same_depicts old new w standing seats depicts,
+  same_depicts old new w standing blocks seats depicts,
   λ buf.
       ap (λ (s : Standing). reserve_out w n o.action (acted LIMIT s n o)) (standing_in old w depicts) ∙ refused w n o.action (acted LIMIT (standing_of old.table) n o) c is ∙ ap (λ (x : Out). answer w x) (sym (out buf)),
 )
@@ -161,23 +188,25 @@ reserves_bad old new n o c result standing seats is out w depicts = (
 tells_lists : (old new : State) (n : Nexus) (a : Acted) (k : List Nexus) → Tells (seat_of old.seats) (seat_of new.seats) n a → count_of new.seats ≡ count_of old.seats → Lists k old.seats → Lists k new.seats
 tells_lists old new n a k tells count lists = record { count = lists.count ∙ sym count; same = λ m. lists.same m ∙ sym (tells_some (seat_of old.seats) (seat_of new.seats) n a tells m) }
 
-pub reserves_good : (old new : State) (n : Nexus) (o : ReserveOut) (result : CommandOut) → standing_of new.table ≡ (acted LIMIT (standing_of old.table) n o).standing → Tells (seat_of old.seats) (seat_of new.seats) n (acted LIMIT (standing_of old.table) n o) → count_of new.seats ≡ count_of old.seats
+pub reserves_good : (old new : State) (n : Nexus) (o : ReserveOut) (result : CommandOut) → standing_of new.table ≡ (acted LIMIT (standing_of old.table) n o).standing → new.blocks ≡ old.blocks
+    → (tells : Tells (seat_of old.seats) (seat_of new.seats) n (acted LIMIT (standing_of old.table) n o)) → tells.aborts ≡ (o.action == 5) → count_of new.seats ≡ count_of old.seats
     → (acted LIMIT (standing_of old.table) n o).verdict ≡ Good → result ≡ outs.Ended status.Good None 0 → Reserves old new n o result
-reserves_good old new n o result standing tells count is told_it w depicts =
+reserves_good old new n o result standing blocks tells aborts count is told_it w depicts =
     let a : Acted = acted LIMIT (standing_of old.table) n o in
     let f : Nexus → Option Seat = seat_of old.seats in
     let g : Nexus → Option Seat = seat_of new.seats in (
       next w n o.action a,
       record {
         medium = depicts.medium;
+        blocks = depicts.blocks ∙ sym blocks;
         known = depicts.known;
         lists = tells_lists old new n a depicts.known tells count depicts.lists;
         world =
             ap (λ (x : World). next x n o.action a) depicts.world
-            ∙ ap (λ (t : Nexus → Option Task). record (world_with depicts.medium a.standing f depicts.known) { attentions = told n a (λ k. attentions_in (f k)); task = t }) (none_marked o.action a.removed)
-            ∙ ap (λ (s : Standing). record (world_with depicts.medium s f depicts.known) { attentions = told n a (λ k. attentions_in (f k)) }) (sym standing)
-            ∙ ap (λ (l : Nexus → List Code). record (world_with depicts.medium (standing_of new.table) f depicts.known) { attentions = l }) (fun_ext (λ m. sym (attentions_told f g n a tells m)))
-            ∙ ap (λ (l : Nexus → Option ℕ). record (world_with depicts.medium (standing_of new.table) g depicts.known) { owner = l }) (fun_ext (λ m. sym (tells_owner f g n a tells m)));
+            ∙ ap (λ (s : Standing). record (world_with depicts.medium s f depicts.known) { attentions = told n a (λ k. attentions_in (f k)); task = marked o.action a.removed (λ k. task_in (f k)) }) (sym standing)
+            ∙ ap (λ (l : Nexus → List Code). record (world_with depicts.medium (standing_of new.table) f depicts.known) { attentions = l; task = marked o.action a.removed (λ k. task_in (f k)) }) (fun_ext (λ m. sym (attentions_told f g n a tells m)))
+            ∙ ap (λ (l : Nexus → Option ℕ). record (world_with depicts.medium (standing_of new.table) g depicts.known) { owner = l; task = marked o.action a.removed (λ k. task_in (f k)) }) (fun_ext (λ m. sym (tells_owner f g n a tells m)))
+            ∙ ap (λ (l : Nexus → Option Task). record (world_with depicts.medium (standing_of new.table) g depicts.known) { task = l }) (fun_ext (λ m. ap (λ (b : Bool). after_mark b a.removed m (task_in (f m))) (sym aborts) ∙ sym (tells_task f g n a tells m)));
       },
       λ buf. ap (λ (s : Standing). reserve_out w n o.action (acted LIMIT s n o)) (standing_in old w depicts) ∙ accepted w n o.action a is ∙ ap (λ (r : CommandOut). answer (next w n o.action a) (out_of r buf)) (sym told_it),
     )
@@ -202,20 +231,42 @@ seated_still old n o standing gone served m is =
       | inr caller ↦ ap (λ (k : Nexus). is_some (seat_of old.seats k)) caller ∙ served.caller
     ]
 
--- seats that were told with the table's own words are told with those of the act
-pub tells_by : (old : State) (g : Nexus → Option Seat) (n : Nexus) (o : ReserveOut) (standing : Standing) (gone : List Pair) (stay_code removed_code : Option Code) → Served old n o standing gone
+-- seats that were told and marked with the table's own words are told and marked with those of the act
+abbrev pub tells_by : (old : State) (mid g : Nexus → Option Seat) (n : Nexus) (o : ReserveOut) (standing : Standing) (gone : List Pair) (stay_code removed_code : Option Code) (aborts : Bool) → Served old n o standing gone
     → stay_code ≡ (acted LIMIT (standing_of old.table) n o).stay_code → removed_code ≡ (acted LIMIT (standing_of old.table) n o).removed_code
-    → g ≡ (λ m. option_map (told_seat n standing.pairs stay_code gone removed_code) (seat_of old.seats m)) → Tells (seat_of old.seats) g n (acted LIMIT (standing_of old.table) n o)
-tells_by old g n o standing gone stay_code removed_code served stay left told =
+    → mid ≡ (λ m. option_map (told_seat n standing.pairs stay_code gone removed_code) (seat_of old.seats m)) → g ≡ (λ m. option_map (marked_seat aborts gone) (mid m)) → Tells (seat_of old.seats) g n (acted LIMIT (standing_of old.table) n o)
+tells_by old mid g n o standing gone stay_code removed_code aborts served stay left told marks =
     let a : Acted = acted LIMIT (standing_of old.table) n o in
     record {
+      aborts = aborts;
       seat = λ m.
-          ap (λ (f : Nexus → Option Seat). f m) told
-          ∙ ap (λ (s : Standing). option_map (told_seat n s.pairs stay_code gone removed_code) (seat_of old.seats m)) served.standing_is
-          ∙ ap (λ (c : Option Code). option_map (told_seat n a.standing.pairs c gone removed_code) (seat_of old.seats m)) stay
-          ∙ ap (λ (ps : List Pair). option_map (told_seat n a.standing.pairs a.stay_code ps removed_code) (seat_of old.seats m)) served.gone_is
-          ∙ ap (λ (c : Option Code). option_map (told_seat n a.standing.pairs a.stay_code a.removed c) (seat_of old.seats m)) left;
+          ap (λ (f : Nexus → Option Seat). f m) marks
+          ∙ ap (λ (f : Nexus → Option Seat). option_map (marked_seat aborts gone) (f m)) told
+          ∙ ap (λ (s : Standing). option_map (marked_seat aborts gone) (option_map (told_seat n s.pairs stay_code gone removed_code) (seat_of old.seats m))) served.standing_is
+          ∙ ap (λ (c : Option Code). option_map (marked_seat aborts gone) (option_map (told_seat n a.standing.pairs c gone removed_code) (seat_of old.seats m))) stay
+          ∙ ap (λ (ps : List Pair). option_map (marked_seat aborts ps) (option_map (told_seat n a.standing.pairs a.stay_code ps removed_code) (seat_of old.seats m))) served.gone_is
+          ∙ ap (λ (c : Option Code). option_map (marked_seat aborts a.removed) (option_map (told_seat n a.standing.pairs a.stay_code a.removed c) (seat_of old.seats m))) left;
       own = λ m s is. seat_in_is old.seats.items.items m s is;
       stay = λ m is. seated_still old n o standing gone served m (ap (λ (s : Standing). is_registered s.pairs m) served.standing_is ∙ is);
       gone = λ m is. old.seated m ((acted_reaches LIMIT (standing_of old.table) n o).removed m is);
     }
+
+-- a mark changes nothing of how far a task has come, nor of its blocks
+mark_progress : (b : Bool) (t : Option Task) → progress_in (cond b (option_map aborted t) t) ≡ progress_in t
+mark_progress true None = refl
+mark_progress true (Some t) = refl
+mark_progress false t = refl
+
+pub tells_progress : (f g : Nexus → Option Seat) (n : Nexus) (a : Acted) → Tells f g n a → (m : Nexus) → progress_in (task_in (g m)) ≡ progress_in (task_in (f m))
+tells_progress f g n a tells m = ap progress_in (tells_task f g n a tells m) ∙ mark_progress (tells.aborts && is_registered a.removed m) (task_in (f m))
+
+mark_fits : (blocks : ℕ) (b : Bool) (o : Option Task) (t : Task) → cond b (option_map aborted o) o ≡ Some t → ((u : Task) → o ≡ Some u → Fits blocks u) → Fits blocks t
+mark_fits blocks true None t is fit = absurd cc
+mark_fits blocks true (Some u) t is fit =
+    let same : aborted u ≡ t = cc in
+    let here : Fits blocks u = fit u refl in
+    subst (Fits blocks) same (record { within = here.within; few = here.few })
+mark_fits blocks false o t is fit = fit t is
+
+pub tells_fit : (blocks : ℕ) (f g : Nexus → Option Seat) (n : Nexus) (a : Acted) → Tells f g n a → AllFit blocks f → AllFit blocks g
+tells_fit blocks f g n a tells fit m t is = mark_fits blocks (tells.aborts && is_registered a.removed m) (task_in (f m)) t (sym (tells_task f g n a tells m) ∙ is) (fit m)

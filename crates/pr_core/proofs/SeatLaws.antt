@@ -1,5 +1,5 @@
 -- Seats in order are found, changed and put in at their places.
-use Rattle.std.proofs.Common.{◌≡◌, ℕ, zero, suc, ◌<◌, ◌≤◌, Bool, true, false, cond, List, [], ◌∷◌, ◌++◌, length, take, drop, map, get_or, set, Option, Some, None, option_map, is_some, is_ok, Result, Ok, Err, ◌+◌, refl, sym, ap, subst, ◌∙◌, arith, ◌⊎◌, inl, inr}
+use Rattle.std.proofs.Common.{◌≡◌, ℕ, zero, suc, ◌<◌, ◌≤◌, Bool, true, false, cond, List, [], ◌∷◌, ◌++◌, length, take, drop, map, get_or, set, Option, Some, None, option_map, IfSome, is_some, is_ok, Result, Ok, Err, ◌+◌, refl, sym, ap, subst, ◌∙◌, arith, ◌⊎◌, inl, inr}
 use Rattle.std.specs.List.{All, AllWithin}
 use Rattle.std.specs.List.Sorted.{IsPartitionedBy}
 use std.Path.{fun_ext}
@@ -10,7 +10,9 @@ use Rattle.std.proofs.lemmas.List.Elements.{All-head, All-tail, All-cons}
 use Rattle.std.proofs.lemmas.List.Kept.{AllPairs-cons}
 use Rattle.pr_words.specs.declared.nexus.Nexus.{Nexus}
 use Rattle.pr_words.specs.Orders.{same_nexus, comes_before}
-use Rattle.pr_model.specs.Worlds.{set_at}
+use Rattle.pr_model.specs.Worlds.{Task, set_at}
+use Rattle.pr_tasks.specs.declared.step_out.StepOut.{StepOut}
+use Rattle.pr_core.specs.Stepping.{with_task, task_after}
 use Rattle.pr_model.proofs.Orders.{same_is, before_not_same, after_not_same, neither, before_through}
 use Rattle.pr_core.specs.declared.seats.Seat.{Seat}
 use Rattle.pr_core.specs.Places.{seat_in, IsAscending, is_earlier, is_later, SitsAt, MissesAt, IsPlace, Divides}
@@ -260,7 +262,7 @@ pub at_place : (seats : List Seat) (n : Nexus) (i : ℕ) (s : Seat) → SitsAt s
 at_place seats n i s sits is = (sits.seat s ∙ ap Some (sym is), ap (λ (x : Seat). x.nexus) is ∙ sits.here s)
 
 pub known_there : (seats : List Seat) (n : Nexus) (place : Result ℕ ℕ) → IsPlace seats n place → is_ok place ≡ is_some (seat_in seats n)
-known_there seats n (Ok i) sits = ap is_some (sym (sits.seat (record { nexus = n; owner = None; attentions = [] })))
+known_there seats n (Ok i) sits = ap is_some (sym (sits.seat (record { nexus = n; owner = None; attentions = []; task = None })))
 known_there seats n (Err i) misses = ap is_some (sym misses.seat)
 
 pub has_room : (o : Option Seat) (count most : ℕ) → o ≡ None → (is_some o ≡ true) ⊎ (count < most) → count < most
@@ -275,3 +277,12 @@ one_more a b c e lt = omega (arith, e)
 
 pub within_both : (a b c : ℕ) → a ≤ b → b ≤ c → a ≤ c
 within_both a b c le le' = omega arith
+
+-- the seat at the place of a nexus after a step of its task
+pub stepped_seat : (seats : List Seat) (n : Nexus) (i : ℕ) (s t : Seat) (out : StepOut) → SitsAt seats n i → s.nexus ≡ n → IfSome s.task (λ k. t ≡ with_task (task_after out k) s)
+    → IfSome s.task (λ k. seat_in (set seats i t) ≡ set_at (seat_in seats) n (Some (with_task (task_after out k) s)))
+stepped_seat seats n i s t out sits own is = by s.task is
+  where
+    by : (o : Option Task) → IfSome o (λ k. t ≡ with_task (task_after out k) s) → IfSome o (λ k. seat_in (set seats i t) ≡ set_at (seat_in seats) n (Some (with_task (task_after out k) s)))
+    by None e = tt
+    by (Some k) e = written seats n i t sits (ap (λ (x : Seat). x.nexus) e ∙ own) ∙ ap (λ (x : Seat). set_at (seat_in seats) n (Some x)) e

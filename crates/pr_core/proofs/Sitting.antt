@@ -7,24 +7,28 @@ use Rattle.pr_words.specs.declared.code.Code.{Code}
 use Rattle.pr_words.specs.Orders.{same_nexus}
 use Rattle.pr_grammar.specs.Standings.{Standing}
 use Rattle.pr_model.specs.Attentions.{is_attention}
-use Rattle.pr_model.specs.Worlds.{Blocks, World, set_at}
+use Rattle.pr_model.specs.Worlds.{Blocks, World, Task, set_at}
 use Rattle.pr_grammar.specs.Operations.{is_unconditional}
 use Rattle.pr_model.specs.Commands.{attention_check, hand_out, no_sense}
 use Rattle.pr_model.proofs.Orders.{same_is}
 use Rattle.pr_table.specs.Tables.{standing_of}
 use Rattle.pr_core.specs.declared.seats.Seat.{Seat}
 use Rattle.pr_core.specs.declared.state.State.{State}
-use Rattle.pr_core.specs.Seats.{seat_of, count_of, attentions_in, owner_in, told_first, Lists}
-use Rattle.pr_core.specs.States.{world_with, Depicts}
+use Rattle.pr_core.specs.Seats.{seat_of, count_of, attentions_in, owner_in, task_in, told_first, Lists}
+use Rattle.pr_core.specs.States.{world_with, Depicts, progress_in}
+use Rattle.pr_core.specs.Fitting.{AllFit}
 use Rattle.pr_core.specs.Admits.{PassesAttention, Senses}
 
 -- the world by its parts
-abbrev shape : Blocks → Standing → List Nexus → (Nexus → List Code) → (Nexus → Option ℕ) → World
-shape b s k a o = record { medium = b; standing = s; known = k; attentions = a; owner = o; task = λ _. None; doubts = [] }
+abbrev shape : Blocks → Standing → List Nexus → (Nexus → List Code) → (Nexus → Option ℕ) → (Nexus → Option Task) → World
+shape b s k a o t = record { medium = b; standing = s; known = k; attentions = a; owner = o; task = t; doubts = [] }
 
-pub same_world : (b : Blocks) (s : Standing) (k : List Nexus) (f g : Nexus → Option Seat) → ((m : Nexus) → attentions_in (g m) ≡ attentions_in (f m)) → ((m : Nexus) → owner_in (g m) ≡ owner_in (f m)) → world_with b s f k ≡ world_with b s g k
-same_world b s k f g attentions owner =
-    ap (λ (a : Nexus → List Code). shape b s k a (λ m. owner_in (f m))) (fun_ext (λ m. sym (attentions m))) ∙ ap (λ (o : Nexus → Option ℕ). shape b s k (λ m. attentions_in (g m)) o) (fun_ext (λ m. sym (owner m)))
+pub same_world : (b : Blocks) (s : Standing) (k : List Nexus) (f g : Nexus → Option Seat) → ((m : Nexus) → attentions_in (g m) ≡ attentions_in (f m)) → ((m : Nexus) → owner_in (g m) ≡ owner_in (f m))
+    → ((m : Nexus) → task_in (g m) ≡ task_in (f m)) → world_with b s f k ≡ world_with b s g k
+same_world b s k f g attentions owner task =
+    ap (λ (a : Nexus → List Code). shape b s k a (λ m. owner_in (f m)) (λ m. task_in (f m))) (fun_ext (λ m. sym (attentions m)))
+    ∙ ap (λ (o : Nexus → Option ℕ). shape b s k (λ m. attentions_in (g m)) o (λ m. task_in (f m))) (fun_ext (λ m. sym (owner m)))
+    ∙ ap (λ (t : Nexus → Option Task). shape b s k (λ m. attentions_in (g m)) (λ m. owner_in (g m)) t) (fun_ext (λ m. sym (task m)))
 
 -- one seat that changes
 one_seat : (h : Seat → Seat) (f : Nexus → Option Seat) (n m : Nexus) → set_at f n (option_map h (f n)) m ≡ cond (same_nexus m n) (option_map h (f m)) (f m)
@@ -43,6 +47,11 @@ owner_kept : (b : Bool) (o : Option Seat) → owner_in (cond b (option_map told_
 owner_kept true None = refl
 owner_kept true (Some s) = refl
 owner_kept false o = refl
+
+task_kept : (b : Bool) (o : Option Seat) → task_in (cond b (option_map told_first o) o) ≡ task_in o
+task_kept true None = refl
+task_kept true (Some s) = refl
+task_kept false o = refl
 
 -- nothing is taken where nothing waits
 quiet_kept : (b : Bool) (o : Option Seat) → (b ≡ true → attentions_in o ≡ []) → attentions_in (cond b (option_map told_first o) o) ≡ attentions_in o
@@ -74,11 +83,15 @@ takes_some f g n takes m = ap is_some (seat_at f g n takes m) ∙ some_kept told
 pub takes_owner : (f g : Nexus → Option Seat) (n : Nexus) → TakesOf f g n → (m : Nexus) → owner_in (g m) ≡ owner_in (f m)
 takes_owner f g n takes m = ap owner_in (seat_at f g n takes m) ∙ owner_kept (same_nexus m n) (f m)
 
+pub takes_task : (f g : Nexus → Option Seat) (n : Nexus) → TakesOf f g n → (m : Nexus) → task_in (g m) ≡ task_in (f m)
+takes_task f g n takes m = ap task_in (seat_at f g n takes m) ∙ task_kept (same_nexus m n) (f m)
+
 -- and nothing else changed
 pub record Takes (old new : State) (n : Nexus) : Type 0 where
   pub standing : standing_of new.table ≡ standing_of old.table
   pub seat : TakesOf (seat_of old.seats) (seat_of new.seats) n
   pub count : count_of new.seats ≡ count_of old.seats
+  pub blocks : new.blocks ≡ old.blocks
   pub known : is_some (seat_of old.seats n) ≡ true
 
 takes_lists : (old new : State) (n : Nexus) (k : List Nexus) → Takes old new n → Lists k old.seats → Lists k new.seats
@@ -97,13 +110,15 @@ pub shows_still : (old new : State) (n : Nexus) (w : World) → Takes old new n 
 shows_still old new n w takes quiet depicts =
     record {
       medium = depicts.medium;
+      blocks = depicts.blocks ∙ sym takes.blocks;
       known = depicts.known;
       lists = takes_lists old new n depicts.known takes depicts.lists;
       world =
           depicts.world ∙ ap (λ (s : Standing). world_with depicts.medium s (seat_of old.seats) depicts.known) (sym takes.standing)
           ∙ same_world depicts.medium (standing_of new.table) depicts.known (seat_of old.seats) (seat_of new.seats)
           (λ m. ap attentions_in (seat_at (seat_of old.seats) (seat_of new.seats) n takes.seat m) ∙ quiet_kept (same_nexus m n) (seat_of old.seats m) (λ e. ap (λ (k : Nexus). attentions_in (seat_of old.seats k)) (same_is m n e) ∙ quiet))
-          (λ m. takes_owner (seat_of old.seats) (seat_of new.seats) n takes.seat m);
+          (λ m. takes_owner (seat_of old.seats) (seat_of new.seats) n takes.seat m)
+          (λ m. takes_task (seat_of old.seats) (seat_of new.seats) n takes.seat m);
     }
 
 -- else for the worlds without it
@@ -117,13 +132,15 @@ shows_less old new n w takes depicts =
     λ m. ap (λ (f : Nexus → Option Seat). attentions_in (f m)) takes.seat ∙ attentions_set (seat_of old.seats) n m (option_map told_first (seat_of old.seats n)) ∙ ap (λ (cs : List Code). set_at (λ k. attentions_in (seat_of old.seats k)) n cs m) (taken_list (seat_of old.seats n) takes.known) in
     record {
       medium = depicts.medium;
+      blocks = depicts.blocks ∙ sym takes.blocks;
       known = depicts.known;
       lists = takes_lists old new n depicts.known takes depicts.lists;
       world =
           ap (λ (x : World). without x n left) depicts.world
-          ∙ ap (λ (s : Standing). shape depicts.medium s depicts.known (set_at (λ k. attentions_in (seat_of old.seats k)) n left) (λ m. owner_in (seat_of old.seats m))) (sym takes.standing)
-          ∙ ap (λ (a : Nexus → List Code). shape depicts.medium (standing_of new.table) depicts.known a (λ m. owner_in (seat_of old.seats m))) (fun_ext (λ m. sym (attentions m)))
-          ∙ ap (λ (o : Nexus → Option ℕ). shape depicts.medium (standing_of new.table) depicts.known (λ m. attentions_in (seat_of new.seats m)) o) (fun_ext (λ m. sym (takes_owner (seat_of old.seats) (seat_of new.seats) n takes.seat m)));
+          ∙ ap (λ (s : Standing). shape depicts.medium s depicts.known (set_at (λ k. attentions_in (seat_of old.seats k)) n left) (λ m. owner_in (seat_of old.seats m)) (λ m. task_in (seat_of old.seats m))) (sym takes.standing)
+          ∙ ap (λ (a : Nexus → List Code). shape depicts.medium (standing_of new.table) depicts.known a (λ m. owner_in (seat_of old.seats m)) (λ m. task_in (seat_of old.seats m))) (fun_ext (λ m. sym (attentions m)))
+          ∙ ap (λ (o : Nexus → Option ℕ). shape depicts.medium (standing_of new.table) depicts.known (λ m. attentions_in (seat_of new.seats m)) o (λ m. task_in (seat_of old.seats m))) (fun_ext (λ m. sym (takes_owner (seat_of old.seats) (seat_of new.seats) n takes.seat m)))
+          ∙ ap (λ (t : Nexus → Option Task). shape depicts.medium (standing_of new.table) depicts.known (λ m. attentions_in (seat_of new.seats m)) (λ m. owner_in (seat_of new.seats m)) t) (fun_ext (λ m. sym (takes_task (seat_of old.seats) (seat_of new.seats) n takes.seat m)));
     }
 
 attentions_of : (old : State) (n : Nexus) (w : World) → Depicts old w → w.attentions n ≡ attentions_in (seat_of old.seats n)
@@ -176,3 +193,10 @@ senses old new n lun (Some a) c takes here first known is = (
         rw (here, is) (ap (hand_out w n descriptor allocation) (attentions_of old n w depicts ∙ some_first a _ first)),
   ),
 )
+
+-- all tasks still fit
+pub takes_fit : (blocks : ℕ) (f g : Nexus → Option Seat) (n : Nexus) → TakesOf f g n → AllFit blocks f → AllFit blocks g
+takes_fit blocks f g n takes fit m t is = fit m t (sym (takes_task f g n takes m) ∙ is)
+
+pub takes_progress : (f g : Nexus → Option Seat) (n : Nexus) → TakesOf f g n → (m : Nexus) → progress_in (task_in (g m)) ≡ progress_in (task_in (f m))
+takes_progress f g n takes m = ap progress_in (takes_task f g n takes m)

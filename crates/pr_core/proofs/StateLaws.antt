@@ -18,8 +18,9 @@ use Rattle.pr_table.specs.Tables.{standing_of}
 use Rattle.pr_core.specs.declared.seats.Seat.{Seat}
 use Rattle.pr_core.specs.declared.seats.Seats.{Seats}
 use Rattle.pr_core.specs.declared.state.State.{State}
-use Rattle.pr_core.specs.Seats.{seat_of, count_of, attentions_in, owner_in, logged_in, logged_out, Lists}
-use Rattle.pr_core.specs.States.{Depicts, owner_at}
+use Rattle.pr_core.specs.Seats.{seat_of, count_of, attentions_in, owner_in, task_in, logged_in, logged_out, Lists}
+use Rattle.pr_core.specs.States.{Depicts, owner_at, progress_in}
+use Rattle.pr_core.specs.Fitting.{Fits, AllFit}
 use Rattle.pr_core.proofs.SeatLaws.{same_self}
 
 -- the seat of one nexus is changed
@@ -99,13 +100,14 @@ login_lists known old new n s seat count lists =
 
 -- the worlds
 
-abbrev world_of : Blocks → Standing → List Nexus → (Nexus → List Code) → (Nexus → Option ℕ) → World
-world_of medium standing known attentions owner =
-    record { medium = medium; standing = standing; known = known; attentions = attentions; owner = owner; task = λ _. None; doubts = [] }
+abbrev world_of : Blocks → Standing → List Nexus → (Nexus → List Code) → (Nexus → Option ℕ) → (Nexus → Option Task) → World
+world_of medium standing known attentions owner task =
+    record { medium = medium; standing = standing; known = known; attentions = attentions; owner = owner; task = task; doubts = [] }
 
-same_world : (medium : Blocks) (standing : Standing) (known : List Nexus) (a b : Nexus → List Code) (p q : Nexus → Option ℕ) → a ≡ b → p ≡ q
-    → world_of medium standing known a p ≡ world_of medium standing known b q
-same_world medium standing known a b p q e f = ap (λ x. world_of medium standing known x p) e ∙ ap (world_of medium standing known b) f
+same_world : (medium : Blocks) (standing : Standing) (known : List Nexus) (a b : Nexus → List Code) (p q : Nexus → Option ℕ) (t u : Nexus → Option Task) → a ≡ b → p ≡ q → t ≡ u
+    → world_of medium standing known a p t ≡ world_of medium standing known b q u
+same_world medium standing known a b p q t u e f g =
+    ap (λ x. world_of medium standing known x p t) e ∙ ap (λ x. world_of medium standing known b x t) f ∙ ap (world_of medium standing known b q) g
 
 pub owner_now : (who : ℕ) (n : Nexus) (o : Option Seat) → owner_in (Some (logged_in who n o)) ≡ Some who
 owner_now who n None = refl
@@ -115,19 +117,25 @@ attentions_now : (who : ℕ) (n : Nexus) (o : Option Seat) → attentions_in (So
 attentions_now who n None = refl
 attentions_now who n (Some s) = refl
 
-pub login_depicts : (old new : State) (who : ℕ) (n : Nexus) → standing_of new.table ≡ standing_of old.table → seat_of new.seats ≡ set_at (seat_of old.seats) n (Some (logged_in who n (seat_of old.seats n))) → count_of new.seats ≡ (if is_some (seat_of old.seats n) then count_of old.seats else count_of old.seats + 1) → (w : World) → Depicts old w → Depicts new (moves.logged_in w who n)
-login_depicts old new who n table seat count w depicts =
+task_now : (who : ℕ) (n : Nexus) (o : Option Seat) → task_in (Some (logged_in who n o)) ≡ task_in o
+task_now who n None = refl
+task_now who n (Some s) = refl
+
+pub login_depicts : (old new : State) (who : ℕ) (n : Nexus) → standing_of new.table ≡ standing_of old.table → new.blocks ≡ old.blocks → seat_of new.seats ≡ set_at (seat_of old.seats) n (Some (logged_in who n (seat_of old.seats n))) → count_of new.seats ≡ (if is_some (seat_of old.seats n) then count_of old.seats else count_of old.seats + 1) → (w : World) → Depicts old w → Depicts new (moves.logged_in w who n)
+login_depicts old new who n table blocks seat count w depicts =
     let before = seat_of old.seats in
     let s = logged_in who n (before n) in
     record {
       medium = depicts.medium;
+      blocks = depicts.blocks ∙ sym blocks;
       known = with_known depicts.known n;
       lists = login_lists depicts.known old.seats new.seats n s seat count depicts.lists;
       world =
           ap (λ v. moves.logged_in v who n) depicts.world
-          ∙ rw (table, seat) (sym (same_world depicts.medium (standing_of old.table) (with_known depicts.known n) _ _ _ _
+          ∙ rw (table, seat) (sym (same_world depicts.medium (standing_of old.table) (with_known depicts.known n) _ _ _ _ _ _
           (fun_ext (seen_same attentions_in before n (Some s) (attentions_now who n (before n))))
-          (seen_changed owner_in before n (Some s) (Some who) (owner_now who n (before n)))));
+          (seen_changed owner_in before n (Some s) (Some who) (owner_now who n (before n)))
+          (fun_ext (seen_same task_in before n (Some s) (task_now who n (before n))))));
     }
 
 nobody_now : (o : Option Seat) → owner_in (option_map logged_out o) ≡ None
@@ -138,26 +146,25 @@ still_waiting : (o : Option Seat) → attentions_in (option_map logged_out o) �
 still_waiting None = refl
 still_waiting (Some s) = refl
 
-either : {A : Type 0} (b : Bool) (x : A) → cond b x x ≡ x
-either true x = refl
-either false x = refl
+idle_now : (o : Option Seat) → task_in (option_map logged_out o) ≡ None
+idle_now None = refl
+idle_now (Some s) = refl
 
-no_task : (n : Nexus) → set_at {A = Option Task} (λ _. None) n None ≡ (λ _. None)
-no_task n = fun_ext (λ m. either (same_nexus m n) None)
-
-pub logout_depicts : (old new : State) (n : Nexus) → standing_of new.table ≡ standing_of old.table → seat_of new.seats ≡ set_at (seat_of old.seats) n (option_map logged_out (seat_of old.seats n)) → count_of new.seats ≡ count_of old.seats → (w : World) → Depicts old w → Depicts new (moves.logged_out w n)
-logout_depicts old new n table seat count w depicts =
+pub logout_depicts : (old new : State) (n : Nexus) → standing_of new.table ≡ standing_of old.table → new.blocks ≡ old.blocks → seat_of new.seats ≡ set_at (seat_of old.seats) n (option_map logged_out (seat_of old.seats n)) → count_of new.seats ≡ count_of old.seats → (w : World) → Depicts old w → Depicts new (moves.logged_out w n)
+logout_depicts old new n table blocks seat count w depicts =
     let before = seat_of old.seats in
     let o = option_map logged_out (before n) in
     record {
       medium = depicts.medium;
+      blocks = depicts.blocks ∙ sym blocks;
       known = depicts.known;
       lists = record { count = depicts.lists.count ∙ sym count; same = λ m. depicts.lists.same m ∙ sym (rw seat (seated_same logged_out before n m)) };
       world =
           ap (λ v. moves.logged_out v n) depicts.world
-          ∙ rw (table, seat, no_task n) (sym (same_world depicts.medium (standing_of old.table) depicts.known _ _ _ _
+          ∙ rw (table, seat) (sym (same_world depicts.medium (standing_of old.table) depicts.known _ _ _ _ _ _
           (fun_ext (seen_same attentions_in before n o (still_waiting (before n))))
-          (seen_changed owner_in before n o None (nobody_now (before n)))));
+          (seen_changed owner_in before n o None (nobody_now (before n)))
+          (seen_changed task_in before n o None (idle_now (before n)))));
     }
 
 -- a login that none of the refusals concerns
@@ -176,3 +183,30 @@ pub accepted_code : (s : State) (w : World) (version : ℕ) (n : Nexus) → Depi
 accepted_code s w version n depicts one some le nobody room =
     let full = not_full (is_some (seat_of s.seats n)) (not (nat_lt (count_of s.seats) KNOWN)) room in
     ap (λ v. login_code v version n) depicts.world ∙ rw (one, port_by n.port some le, nobody, depicts.lists.same n, depicts.lists.count, full) refl
+
+-- tasks
+
+-- where one seat was changed, whose task fits, all do
+pub set_fits : (blocks : ℕ) (seat : Nexus → Option Seat) (n : Nexus) (o : Option Seat) → AllFit blocks seat → ((t : Task) → task_in o ≡ Some t → Fits blocks t) → AllFit blocks (set_at seat n o)
+set_fits blocks seat n o all here m t = by (same_nexus m n)
+  where
+    by : (b : Bool) → task_in (cond b o (seat m)) ≡ Some t → Fits blocks t
+    by true is = here t is
+    by false is = all m t is
+
+pub login_fits : (blocks who : ℕ) (seat : Nexus → Option Seat) (n : Nexus) → AllFit blocks seat → AllFit blocks (set_at seat n (Some (logged_in who n (seat n))))
+login_fits blocks who seat n all = set_fits blocks seat n (Some (logged_in who n (seat n))) all (λ t is. all n t (sym (task_now who n (seat n)) ∙ is))
+
+pub logout_fits : (blocks : ℕ) (seat : Nexus → Option Seat) (n : Nexus) → AllFit blocks seat → AllFit blocks (set_at seat n (option_map logged_out (seat n)))
+logout_fits blocks seat n all = set_fits blocks seat n (option_map logged_out (seat n)) all (λ t is. let clash : None ≡ Some t = sym (idle_now (seat n)) ∙ is in absurd cc)
+
+-- the task of another nexus is as it was
+pub others_go_on : (seat : Nexus → Option Seat) (n : Nexus) (o : Option Seat) (other : ℕ) (m : Nexus) → (owner_in (seat n) ≡ Some other → ⊥) → owner_in (seat m) ≡ Some other → progress_in (task_in (set_at seat n o m)) ≡ progress_in (task_in (seat m))
+others_go_on seat n o other m not_here e = by (same_nexus m n) refl
+  where
+    by : (b : Bool) → same_nexus m n ≡ b → progress_in (task_in (cond b o (seat m))) ≡ progress_in (task_in (seat m))
+    by true f = absurd (not_here (ap (λ k. owner_in (seat k)) (sym (same_is m n f)) ∙ e))
+    by false f = refl
+
+pub elsewhere : (seat : Nexus → Option Seat) (n : Nexus) (o : Option Seat) (m : Nexus) → same_nexus m n ≡ false → set_at seat n o m ≡ seat m
+elsewhere seat n o m other = rw other refl

@@ -1,18 +1,19 @@
--- What the checks of a command decide, and what an admitted command does, for the worlds of a state.
-use Rattle.std.specs.Prelude.{◌≡◌, ℕ, ◌<◌, Bool, List, take, Some, None, Result, Ok, Err}
+-- What the checks of a command's unit decide, and what an admitted command does, for the worlds of a state.
+use Rattle.std.specs.Prelude.{◌≡◌, ℕ, ◌<◌, ◌++◌, Bool, List, take, Option, Some, None, Result, Ok, Err}
 use Rattle.pr_words.specs.declared.nexus.Nexus.{Nexus}
 use Rattle.pr_words.specs.declared.code.Code.{Code}
+use Rattle.pr_grammar.specs.declared.operation.OperationCode.{OperationCode}
 use Rattle.pr_grammar.specs.declared.cdb.Command.{Command}
-use Rattle.pr_grammar.specs.Cdbs.{operation_code, command_of}
+use Rattle.pr_grammar.specs.Operations.{operation_at}
 use Rattle.pr_model.specs.Limits.{LIMIT}
 use Rattle.pr_model.specs.Acts.{ReserveOut, acted}
 use Rattle.pr_model.specs.Worlds.{World}
-use Rattle.pr_model.specs.Commands.{answer, checking, attention_check, served, answered, good, sense_data, request_sense, reserve_out}
+use Rattle.pr_model.specs.Commands.{Answer, answer, checking, attention_check, unit_checks, operation_checks, served, good, sense_data, request_sense, reserve_out}
 use Rattle.pr_core.specs.declared.answers.CommandOut.{CommandOut}
 use Rattle.pr_core.specs.declared.admitted.Admitted.{Admitted}
 use Rattle.pr_core.specs.declared.state.State.{State}
 use Rattle.pr_core.specs.States.{Depicts}
-use Rattle.pr_core.specs.Passing.{Carries}
+use Rattle.pr_core.specs.Passing.{Pass, Give, Carries}
 use Rattle.pr_core.specs.Outs.{out_of}
 
 -- the check of the unit attention lets pass, or takes and reports one
@@ -22,15 +23,16 @@ PassesAttention old new n op (Err c) =
     (c.key < 16)
     × ((w : World) → Depicts old w → (v : World) × Depicts new v × (attention_check w n op (w.attentions n) ≡ Some (answer v (checking c))))
 
--- the checks of a command let it pass, or refuse it
-abbrev pub Admits : State → State → Nexus → ℕ → List ℕ → List ℕ → Result Admitted Code → Type 0
-Admits old new n lun cdb sent (Ok a) =
-    Carries (command_of (operation_code cdb) cdb) sent a
-    × ((w : World) → Depicts old w
-    → Depicts new w × (answered w n lun cdb sent ≡ served w n lun (command_of (operation_code cdb) cdb) sent))
-Admits old new n lun cdb sent (Err c) =
+-- the checks of the unit and of the operation code let a command pass, or refuse it
+abbrev pub unit_and_operation : World → Nexus → ℕ → ℕ → List (Option Answer)
+unit_and_operation w n lun op = unit_checks w n lun op ++ operation_checks w op
+
+abbrev pub PassesUnit : State → State → Nexus → ℕ → ℕ → Result OperationCode Code → Type 0
+PassesUnit old new n lun op (Ok o) =
+    (operation_at op ≡ Some o) × ((w : World) → Depicts old w → Depicts new w × Pass (unit_and_operation w n lun op))
+PassesUnit old new n lun op (Err c) =
     (c.key < 16)
-    × ((w : World) → Depicts old w → (v : World) × Depicts new v × (answered w n lun cdb sent ≡ answer v (checking c)))
+    × ((w : World) → Depicts old w → (v : World) × Depicts new v × Give (unit_and_operation w n lun op) (answer v (checking c)))
 
 -- a command that no check refuses was served
 abbrev pub Serves : State → State → Nexus → ℕ → Admitted → CommandOut → List ℕ → Type 0

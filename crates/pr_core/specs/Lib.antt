@@ -1,8 +1,11 @@
 pub mod Places
 pub mod Seats
 pub mod Telling
-pub mod Outs
+pub mod Fitting
+pub mod Stepping
+pub mod Feeding
 pub mod States
+pub mod Outs
 pub mod Passing
 pub mod Admits
 pub mod View

@@ -3,7 +3,7 @@ use Rattle.std.specs.Prelude.{◌≡◌, ℕ, List, [], ◌∷◌, length, Optio
 use Rattle.pr_words.specs.declared.nexus.Nexus.{Nexus}
 use Rattle.pr_words.specs.declared.code.Code.{Code}
 use Rattle.pr_model.specs.Attentions.{powered_on}
-use Rattle.pr_model.specs.Worlds.{is_known}
+use Rattle.pr_model.specs.Worlds.{Task, is_known}
 use Rattle.pr_core.specs.declared.seats.Seat.{Seat}
 use Rattle.pr_core.specs.declared.seats.Seats.{Seats}
 use Rattle.pr_core.specs.Places.{seat_in}
@@ -26,17 +26,21 @@ abbrev pub owner_in : Option Seat → Option ℕ
 owner_in None = None
 owner_in (Some s) = s.owner
 
+abbrev pub task_in : Option Seat → Option Task
+task_in None = None
+task_in (Some s) = s.task
+
 -- the seat after a login, a logout, and where its first attention was taken
 
 abbrev pub logged_in : ℕ → Nexus → Option Seat → Seat
-logged_in who n None = record { nexus = n; owner = Some who; attentions = powered_on ∷ [] }
-logged_in who n (Some s) = record { nexus = s.nexus; owner = Some who; attentions = s.attentions }
+logged_in who n None = record { nexus = n; owner = Some who; attentions = powered_on ∷ []; task = None }
+logged_in who n (Some s) = record { nexus = s.nexus; owner = Some who; attentions = s.attentions; task = s.task }
 
 abbrev pub logged_out : Seat → Seat
-logged_out s = record { nexus = s.nexus; owner = None; attentions = s.attentions }
+logged_out s = record { nexus = s.nexus; owner = None; attentions = s.attentions; task = None }
 
 abbrev pub told_first : Seat → Seat
-told_first s = record { nexus = s.nexus; owner = s.owner; attentions = drop 1 s.attentions }
+told_first s = record { nexus = s.nexus; owner = s.owner; attentions = drop 1 s.attentions; task = s.task }
 
 -- the list has the nexuses that have a seat, each once
 pub record Lists (known : List Nexus) (seats : Seats) : Type 0 where

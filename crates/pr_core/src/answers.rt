@@ -1,8 +1,8 @@
 ghost use Rattle.std.specs.Prelude.{◌≡◌, ◌<◌, ℕ, List, None};
 ghost use Rattle.pr_model.specs.Commands.{checking, good, code};
-ghost use Rattle.pr_core.specs.Outs.{out_of, IsProper};
+ghost use Rattle.pr_core.specs.Outs.{out_of, IsProper, IsEnded};
 
-use pr_words::{Code, Sense, Status};
+use pr_words::{Code, Sense, Status, Way};
 
 /// How a command was answered.
 #[derive(Clone, Copy, Debug, PartialEq, Eq)]
@@ -12,6 +12,11 @@ pub enum CommandOut {
         status: Status,
         sense: Option<Sense>,
         len: usize,
+    },
+    /// A READ or WRITE of so many blocks has begun: its steps follow, the last of which ends it.
+    Started {
+        way: Way,
+        count: u32,
     },
 }
 
@@ -42,6 +47,7 @@ impl CommandOut {
     pub(crate) fn checking(code: Code) -> CommandOut
         ensures out { (buf : List ℕ) → out_of result buf ≡ checking code }
         ensures proper { code.key < 16 → IsProper result }
+        ensures ended { IsEnded result }
     {
         CommandOut::Ended {
             status: Status::CheckCondition,

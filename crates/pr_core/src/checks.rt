@@ -1,18 +1,20 @@
 //! The checks of a command, in their order: each answers the code of its refusal.
 
-ghost use Rattle.std.specs.Prelude.{◌≡◌, ◌<◌, ℕ, Some, length};
+ghost use Rattle.std.specs.Prelude.{◌≡◌, ◌<◌, ℕ, Some, is_some, true, length, OnOk};
 ghost use Rattle.pr_words.specs.Services.{out_service_code};
 ghost use Rattle.pr_grammar.specs.Operations.{operation_at, unconditional_in};
 ghost use Rattle.pr_grammar.specs.Cdbs.{operation_code};
-ghost use Rattle.pr_model.specs.Commands.{has_bad_list};
+ghost use Rattle.pr_grammar.specs.Pages.{report_luns};
+ghost use Rattle.pr_model.specs.Commands.{has_bad_list, inquiry_data};
 ghost use Rattle.pr_model.specs.Commands as model;
-ghost use Rattle.pr_core.specs.Passing.{PassesOperation, PassesForm, PassesCommand, PassesLength};
+ghost use Rattle.pr_core.specs.Passing.{PassesOperation, PassesForm, PassesCommand, PassesCdb, PassesTransfer, PassesNoData, PassesLength};
 
 use crate::admitted::Admitted;
 use pr_cdb::{Command, OperationCode, is_unconditional, read_as};
 use pr_param::read_out_list;
 use pr_table::{OutList, OutRequest};
-use pr_words::{Code, InService, Kind, OutService};
+use pr_tasks::Task;
+use pr_words::{BLOCK, Code, InService, Kind, OutService, Way};
 
 /// Whether a command is for a logical unit that isn't there, other than 0.
 pub fn is_elsewhere(lun: u16, operation: Option<OperationCode>) -> bool
@@ -21,32 +23,32 @@ pub fn is_elsewhere(lun: u16, operation: Option<OperationCode>) -> bool
     lun != 0 && !is_unconditional(operation)
 }
 
-/// The check of the operation code: whether its command is served yet.
+/// The check of the operation code: whether its command is served.
 pub fn check_operation(operation: Option<OperationCode>) -> Result<OperationCode, Code>
     ensures { PassesOperation operation result }
 {
-    let Some(operation) = operation else {
-        return Err(Code::INVALID_COMMAND_OPERATION_CODE);
-    };
     match operation {
-        OperationCode::TestUnitReady
-        | OperationCode::RequestSense
-        | OperationCode::ReserveIn
-        | OperationCode::ReserveOut => Ok(operation),
-        OperationCode::Inquiry
-        | OperationCode::ReadCapacity10
-        | OperationCode::Read10
-        | OperationCode::Write10
-        | OperationCode::SynchronizeCache10
-        | OperationCode::Read16
-        | OperationCode::Write16
-        | OperationCode::ReadCapacity16
-        | OperationCode::ReportLuns => Err(Code::INVALID_COMMAND_OPERATION_CODE),
+        Some(operation) => Ok(operation),
+        None => Err(Code::INVALID_COMMAND_OPERATION_CODE),
     }
 }
 
+/// The checks of a CDB with its data-out, over a medium of so many blocks.
+pub fn check_cdb(
+    operation: OperationCode,
+    cdb: &[u8],
+    sent: &[u8],
+    blocks: u64,
+) -> Result<Admitted, Code>
+    requires { operation_at (operation_code cdb.now) ≡ Some operation }
+    ensures { PassesCdb blocks operation cdb.now sent.now result }
+{
+    let command = check_form(operation, cdb)?;
+    check_command(command, sent, blocks)
+}
+
 /// The checks of a CDB's form: its length, and NACA.
-pub fn check_form(operation: OperationCode, cdb: &[u8]) -> Result<Command, Code>
+fn check_form(operation: OperationCode, cdb: &[u8]) -> Result<Command, Code>
     requires { operation_at (operation_code cdb.now) ≡ Some operation }
     ensures { PassesForm operation cdb.now result }
 {
@@ -58,7 +60,8 @@ pub fn check_form(operation: OperationCode, cdb: &[u8]) -> Result<Command, Code>
 
 /// The check of the data-out's length.
 fn check_length(announced: usize, sent: &[u8]) -> Result<(), Code>
-    ensures { PassesLength announced sent.now result }
+    ensures passes { PassesLength announced sent.now result }
+    ensures size { OnOk result (length sent.now ≡ announced) }
 {
     if sent.len() == announced {
         Ok(())
@@ -68,24 +71,47 @@ fn check_length(announced: usize, sent: &[u8]) -> Result<(), Code>
 }
 
 /// A command's own checks: its fields, its data-out's length, and its parameter list.
-pub fn check_command(command: Command, sent: &[u8]) -> Result<Admitted, Code>
-    ensures { PassesCommand command sent.now result }
+fn check_command(command: Command, sent: &[u8], blocks: u64) -> Result<Admitted, Code>
+    ensures { PassesCommand blocks command sent.now result }
 {
     match command {
-        Command::TestUnitReady => {
-            check_length(0, sent)?;
-            Ok(Admitted::TestUnitReady)
-        }
+        Command::TestUnitReady => check_no_data(sent, Admitted::TestUnitReady),
         Command::RequestSense {
             descriptor,
             allocation,
-        } => {
-            check_length(0, sent)?;
-            Ok(Admitted::RequestSense {
+        } => check_no_data(
+            sent,
+            Admitted::RequestSense {
                 descriptor,
                 allocation,
-            })
+            },
+        ),
+        Command::Inquiry {
+            vital,
+            page,
+            allocation,
+        } => check_inquiry(vital, page, allocation, sent),
+        Command::ReadCapacity10 => check_no_data(sent, Admitted::ReadCapacity10),
+        Command::ReadCapacity16 { action, allocation } => check_capacity16(
+            action, allocation, sent,
+        ),
+        Command::ReportLuns { select, allocation } => check_luns(select, allocation, sent),
+        Command::Read {
+            protect,
+            lba,
+            count,
+            ..
+        } => check_transfer(Way::Read, protect, lba, count, 0, sent, blocks),
+        Command::Write {
+            protect,
+            lba,
+            count,
+            ..
+        } => {
+            let announced = BLOCK * count as usize;
+            check_transfer(Way::Write, protect, lba, count, announced, sent, blocks)
         }
+        Command::SynchronizeCache { lba, count } => check_synchronize(lba, count, sent, blocks),
         Command::ReserveIn { action, allocation } => check_reserve_in(action, allocation, sent),
         Command::ReserveOut {
             action,
@@ -93,22 +119,110 @@ pub fn check_command(command: Command, sent: &[u8]) -> Result<Admitted, Code>
             kind,
             length,
         } => check_reserve_out(action, scope, kind, length, sent),
-        Command::Inquiry { .. }
-        | Command::ReadCapacity10
-        | Command::ReadCapacity16 { .. }
-        | Command::ReportLuns { .. }
-        | Command::Read { .. }
-        | Command::Write { .. }
-        | Command::SynchronizeCache { .. } => {
-            check_length(0, sent)?;
-            Err(Code::INVALID_COMMAND_OPERATION_CODE)
-        }
     }
+}
+
+/// The check of the length alone, of a command without data-out.
+fn check_no_data(sent: &[u8], admitted: Admitted) -> Result<Admitted, Code>
+    ensures { PassesNoData admitted sent.now result }
+{
+    check_length(0, sent)?;
+    Ok(admitted)
+}
+
+/// The checks of an INQUIRY.
+fn check_inquiry(vital: bool, page: u8, allocation: u16, sent: &[u8]) -> Result<Admitted, Code>
+    ensures { (blocks : ℕ) →
+        PassesCommand blocks (Command.Inquiry vital page allocation) sent.now result }
+{
+    if !has_inquiry_data(vital, page) {
+        return Err(Code::INVALID_FIELD_IN_CDB);
+    }
+    check_length(0, sent)?;
+    Ok(Admitted::Inquiry {
+        vital,
+        page,
+        allocation,
+    })
+}
+
+/// Whether there are such data: the standard ones, which have no page code, or a page.
+fn has_inquiry_data(vital: bool, page: u8) -> bool
+    ensures { result ≡ is_some (inquiry_data vital page true) }
+{
+    if vital {
+        matches!(page, 0x00 | 0x80 | 0x83)
+    } else {
+        page == 0
+    }
+}
+
+/// The checks of a READ CAPACITY(16).
+fn check_capacity16(action: u8, allocation: u32, sent: &[u8]) -> Result<Admitted, Code>
+    ensures { (blocks : ℕ) →
+        PassesCommand blocks (Command.ReadCapacity16 action allocation) sent.now result }
+{
+    if action != 0x10 {
+        return Err(Code::INVALID_FIELD_IN_CDB);
+    }
+    check_length(0, sent)?;
+    Ok(Admitted::ReadCapacity16 { allocation })
+}
+
+/// The checks of a REPORT LUNS.
+fn check_luns(select: u8, allocation: u32, sent: &[u8]) -> Result<Admitted, Code>
+    ensures { (blocks : ℕ) →
+        PassesCommand blocks (Command.ReportLuns select allocation) sent.now result }
+{
+    if !has_report(select) {
+        return Err(Code::INVALID_FIELD_IN_CDB);
+    }
+    check_length(0, sent)?;
+    Ok(Admitted::ReportLuns { select, allocation })
+}
+
+/// Whether there is such a report.
+fn has_report(select: u8) -> bool
+    ensures { result ≡ is_some (report_luns select) }
+{
+    matches!(select, 0x00..=0x02)
+}
+
+/// The checks of a READ or WRITE that announces so many bytes of data-out.
+fn check_transfer(
+    way: Way,
+    protect: u8,
+    lba: u64,
+    count: u32,
+    announced: usize,
+    sent: &[u8],
+    blocks: u64,
+) -> Result<Admitted, Code>
+    ensures { PassesTransfer blocks way protect lba count announced sent.now result }
+{
+    if protect != 0 {
+        return Err(Code::INVALID_FIELD_IN_CDB);
+    }
+    let task = Task::begin(way, lba, count, blocks)?;
+    check_length(announced, sent)?;
+    Ok(Admitted::Transfer(task))
+}
+
+/// The checks of a SYNCHRONIZE CACHE(10).
+fn check_synchronize(lba: u32, count: u16, sent: &[u8], blocks: u64) -> Result<Admitted, Code>
+    ensures { PassesCommand blocks (Command.SynchronizeCache lba count) sent.now result }
+{
+    if u64::from(lba) + u64::from(count) > blocks {
+        return Err(Code::LOGICAL_BLOCK_ADDRESS_OUT_OF_RANGE);
+    }
+    check_length(0, sent)?;
+    Ok(Admitted::SynchronizeCache)
 }
 
 /// The checks of a PERSISTENT RESERVE IN.
 fn check_reserve_in(action: u8, allocation: u16, sent: &[u8]) -> Result<Admitted, Code>
-    ensures { PassesCommand (Command.ReserveIn action allocation) sent.now result }
+    ensures { (blocks : ℕ) →
+        PassesCommand blocks (Command.ReserveIn action allocation) sent.now result }
 {
     let Some(service) = InService::of(action) else {
         return Err(Code::INVALID_FIELD_IN_CDB);
@@ -128,7 +242,8 @@ fn check_reserve_out(
     length: u32,
     sent: &[u8],
 ) -> Result<Admitted, Code>
-    ensures { PassesCommand (Command.ReserveOut action scope kind length) sent.now result }
+    ensures { (blocks : ℕ) →
+        PassesCommand blocks (Command.ReserveOut action scope kind length) sent.now result }
 {
     let Some(service) = OutService::of(action) else {
         return Err(Code::INVALID_FIELD_IN_CDB);

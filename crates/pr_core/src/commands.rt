@@ -1,28 +1,34 @@
 //! Commands: their checks, and what those do that pass.
 
-ghost use Rattle.std.specs.Prelude.{◌≡◌, ◌<◌, ◌≤◌, ℕ, Some, is_some, true, length, take, min};
+ghost use Rattle.std.specs.Prelude.{◌≡◌, ◌<◌, ◌≤◌, ℕ, List, Some, None, is_some, true, length, take};
 ghost use Rattle.pr_words.specs.Services.{in_service_code};
-ghost use Rattle.pr_grammar.specs.Operations.{operation_at};
-ghost use Rattle.pr_model.specs.Commands.{sense_data, reserve_in_data};
+ghost use Rattle.pr_grammar.specs.Operations.{operation_at, class_of};
+ghost use Rattle.pr_model.specs.Conflicts.{is_forbidden, role_of};
+ghost use Rattle.pr_model.specs.Tasks.{new_task};
+ghost use Rattle.pr_model.specs.Commands.{reserve_in_data};
 ghost use Rattle.pr_model.specs.Entries.{entry, Command as Commands};
 ghost use Rattle.pr_table.specs.Tables.{standing_of};
 ghost use Rattle.pr_table.specs.Told.{requested};
 ghost use Rattle.pr_core.specs.Seats.{seat_of};
-ghost use Rattle.pr_core.specs.Outs.{out_of, IsProper};
-ghost use Rattle.pr_core.specs.Admits.{Admits, PassesAttention, Serves, Senses, Reserves};
+ghost use Rattle.pr_core.specs.Outs.{out_of, IsProper, IsEnded, IsFed, Begins};
+ghost use Rattle.pr_core.specs.Fitting.{Fits};
+ghost use Rattle.pr_core.specs.Passing.{FitsIn, IsBegun};
+ghost use Rattle.pr_core.specs.Admits.{PassesAttention, PassesUnit, Serves, Senses, Reserves};
 
 use crate::admitted::Admitted;
 use crate::answers::CommandOut;
-use crate::checks::{check_command, check_form, check_operation, is_elsewhere};
+use crate::checks::{check_cdb, check_operation, is_elsewhere};
+use crate::replies::{write_capacity10, write_capacity16, write_inquiry, write_luns, write_sense};
 use crate::state::State;
-use pr_cdb::{OperationCode, is_unconditional, operation};
-use pr_param::{write_capabilities, write_full, write_keys, write_reservation};
-use pr_sense::{write_descriptor, write_fixed};
+use pr_cdb::{OperationCode, class, is_unconditional, operation};
+use pr_param::{Registrants, write_capabilities, write_full, write_keys, write_reservation};
+use pr_rules::allows;
 use pr_table::{OutList, OutRequest, Verdict};
-use pr_words::{Code, InService, Nexus, Sense};
+use pr_tasks::Task;
+use pr_words::{Code, InService, Nexus, Role};
 
 impl State {
-    ghost use Rattle.pr_core.specs.States.{Enters, owner_at};
+    ghost use Rattle.pr_core.specs.States.{Enters, owner_at, progress_at, TasksStay};
 
     /// A command of a nexus, with its data-out in the first bytes of the buffer.
     pub fn command(
@@ -34,6 +40,7 @@ impl State {
         out_len: usize,
     ) -> CommandOut
         requires known { is_some (seat_of self.old.seats nexus) ≡ true }
+        requires idle { progress_at self.old nexus ≡ None }
         requires cdb { 0 < length cdb.now }
         requires room { 524288 ≤ length buf.old }
         requires sent { out_len ≤ length buf.old }
@@ -41,11 +48,63 @@ impl State {
             → Enters self.old self.new (entry who nexus
             (Commands lun cdb.now (take out_len buf.old)) (out_of result buf.new)) }
         ensures owner { owner_at self.new ≡ owner_at self.old }
+        ensures begins { Begins result (progress_at self.new nexus) }
+        ensures fed { IsFed result out_len }
+        ensures others { TasksStay nexus self.old self.new }
+        ensures blocks { self.new.blocks ≡ self.old.blocks }
         ensures proper { IsProper result }
     {
-        match self.admit(nexus, lun, cdb, &buf[..out_len]) {
+        let operation = match self.check_unit(nexus, lun, cdb[0]) {
+            Ok(operation) => operation,
+            Err(code) => return CommandOut::checking(code),
+        };
+        if self.is_forbidden(nexus, cdb[0]) {
+            return CommandOut::conflict();
+        }
+        match check_cdb(operation, cdb, &buf[..out_len], self.blocks) {
             Ok(admitted) => self.serve(nexus, lun, admitted, buf),
             Err(code) => CommandOut::checking(code),
+        }
+    }
+
+    /// The checks of the unit and of the operation code. A unit attention that waits is taken and
+    /// reported.
+    fn check_unit(&mut self, nexus: Nexus, lun: u16, op: u8) -> Result<OperationCode, Code>
+        requires known { is_some (seat_of self.old.seats nexus) ≡ true }
+        ensures passes { PassesUnit self.old self.new nexus lun op result }
+        ensures owner { owner_at self.new ≡ owner_at self.old }
+        ensures progress { progress_at self.new ≡ progress_at self.old }
+        ensures known { is_some (seat_of self.new.seats nexus) ≡ true }
+        ensures blocks { self.new.blocks ≡ self.old.blocks }
+    {
+        let operation = operation(op);
+        if is_elsewhere(lun, operation) {
+            return Err(Code::LOGICAL_UNIT_NOT_SUPPORTED);
+        }
+        self.check_attention(nexus, operation)?;
+        check_operation(operation)
+    }
+
+    /// Whether the reservation forbids a nexus what the command with this operation code does.
+    fn is_forbidden(&self, nexus: Nexus, op: u8) -> bool
+        ensures { result ≡ is_forbidden (standing_of self.now.table) nexus (class_of op) }
+    {
+        match self.table.kind() {
+            Some(kind) => !allows(kind, self.role(nexus), class(op)),
+            None => false,
+        }
+    }
+
+    /// What a nexus is to the reservation.
+    fn role(&self, nexus: Nexus) -> Role
+        ensures { result ≡ role_of (standing_of self.now.table) nexus }
+    {
+        if self.table.is_holder(nexus) {
+            Role::Holder
+        } else if self.table.is_registered(nexus) {
+            Role::Registered
+        } else {
+            Role::Stranger
         }
     }
 
@@ -59,6 +118,8 @@ impl State {
         ensures passes { (op : ℕ) → operation ≡ operation_at op
             → PassesAttention self.old self.new nexus op result }
         ensures owner { owner_at self.new ≡ owner_at self.old }
+        ensures progress { progress_at self.new ≡ progress_at self.old }
+        ensures blocks { self.new.blocks ≡ self.old.blocks }
         ensures known { is_some (seat_of self.new.seats nexus) ≡ true }
     {
         if is_unconditional(operation) {
@@ -70,35 +131,22 @@ impl State {
         }
     }
 
-    /// The command, where no check refuses it; else the code of the first that does. A unit
-    /// attention that waits is such a code, and is taken.
-    fn admit(&mut self, nexus: Nexus, lun: u16, cdb: &[u8], sent: &[u8]) -> Result<Admitted, Code>
-        requires known { is_some (seat_of self.old.seats nexus) ≡ true }
-        requires cdb { 0 < length cdb.now }
-        ensures admits { Admits self.old self.new nexus lun cdb.now sent.now result }
-        ensures owner { owner_at self.new ≡ owner_at self.old }
-        ensures known { is_some (seat_of self.new.seats nexus) ≡ true }
-    {
-        let operation = operation(cdb[0]);
-        if is_elsewhere(lun, operation) {
-            return Err(Code::LOGICAL_UNIT_NOT_SUPPORTED);
-        }
-        self.check_attention(nexus, operation)?;
-        let operation = check_operation(operation)?;
-        let command = check_form(operation, cdb)?;
-        check_command(command, sent)
-    }
-
     /// A command that no check refuses. Its data-in goes to the front of the buffer.
     fn serve(&mut self, nexus: Nexus, lun: u16, admitted: Admitted, buf: &mut [u8]) -> CommandOut
         requires known { is_some (seat_of self.old.seats nexus) ≡ true }
+        requires idle { progress_at self.old nexus ≡ None }
+        requires fits { FitsIn self.old.blocks admitted }
         requires room { 524288 ≤ length buf.old }
         ensures serves { Serves self.old self.new nexus lun admitted result buf.new }
+        ensures begun { IsBegun admitted result }
         ensures owner { owner_at self.new ≡ owner_at self.old }
+        ensures begins { Begins result (progress_at self.new nexus) }
+        ensures others { TasksStay nexus self.old self.new }
+        ensures blocks { self.new.blocks ≡ self.old.blocks }
         ensures proper { IsProper result }
     {
         match admitted {
-            Admitted::TestUnitReady => CommandOut::good(0),
+            Admitted::TestUnitReady | Admitted::SynchronizeCache => CommandOut::good(0),
             Admitted::RequestSense {
                 descriptor,
                 allocation,
@@ -106,6 +154,19 @@ impl State {
                 let code = self.sense_code(nexus, lun);
                 CommandOut::good(write_sense(descriptor, code, allocation, buf))
             }
+            Admitted::Inquiry {
+                vital,
+                page,
+                allocation,
+            } => CommandOut::good(write_inquiry(vital, page, lun == 0, allocation, buf)),
+            Admitted::ReadCapacity10 => CommandOut::good(write_capacity10(self.blocks, buf)),
+            Admitted::ReadCapacity16 { allocation } => {
+                CommandOut::good(write_capacity16(self.blocks, allocation, buf))
+            }
+            Admitted::ReportLuns { select, allocation } => {
+                CommandOut::good(write_luns(select, allocation, buf))
+            }
+            Admitted::Transfer(task) => self.begin(nexus, task),
             Admitted::ReserveIn {
                 service,
                 allocation,
@@ -114,12 +175,37 @@ impl State {
         }
     }
 
+    /// A READ or WRITE: of no blocks it has ended at once, and of others its task begins.
+    fn begin(&mut self, nexus: Nexus, task: Task) -> CommandOut
+        requires known { is_some (seat_of self.old.seats nexus) ≡ true }
+        requires idle { progress_at self.old nexus ≡ None }
+        requires fits { Fits self.old.blocks task }
+        requires fresh { task ≡ new_task task.way task.lba task.count }
+        ensures serves { (lun : ℕ) (buf : List ℕ) → Serves self.old self.new nexus lun
+            (Admitted.Transfer task) result buf }
+        ensures begun { IsBegun (Admitted.Transfer task) result }
+        ensures owner { owner_at self.new ≡ owner_at self.old }
+        ensures begins { Begins result (progress_at self.new nexus) }
+        ensures others { TasksStay nexus self.old self.new }
+        ensures blocks { self.new.blocks ≡ self.old.blocks }
+        ensures proper { IsProper result }
+    {
+        let (way, count) = (task.way(), task.left());
+        if count == 0 {
+            return CommandOut::good(0);
+        }
+        self.seats.begin(nexus, task);
+        CommandOut::Started { way, count }
+    }
+
     /// What REQUEST SENSE hands out: on logical unit 0 the attention that is reported first, which
     /// is taken.
     fn sense_code(&mut self, nexus: Nexus, lun: u16) -> Code
         requires known { is_some (seat_of self.old.seats nexus) ≡ true }
         ensures senses { Senses self.old self.new nexus lun result }
         ensures owner { owner_at self.new ≡ owner_at self.old }
+        ensures progress { progress_at self.new ≡ progress_at self.old }
+        ensures blocks { self.new.blocks ≡ self.old.blocks }
     {
         if lun != 0 {
             return Code::LOGICAL_UNIT_NOT_SUPPORTED;
@@ -149,36 +235,19 @@ impl State {
         ensures reserves { Reserves self.old self.new nexus
             (requested request.now list.now) result }
         ensures owner { owner_at self.new ≡ owner_at self.old }
+        ensures progress { progress_at self.new ≡ progress_at self.old }
+        ensures blocks { self.new.blocks ≡ self.old.blocks }
+        ensures ended { IsEnded result }
         ensures proper { IsProper result }
     {
         match self.table.serve(nexus, request, list) {
             Verdict::Good(change) => {
                 self.seats.tell(nexus, &self.table, &change);
+                self.seats.mark(&self.table, &change);
                 CommandOut::good(0)
             }
             Verdict::Conflict => CommandOut::conflict(),
             Verdict::Bad(code) => CommandOut::checking(code),
         }
     }
-}
-
-/// Writes the first `allocation` bytes of sense data in the asked format, and says how many.
-fn write_sense(descriptor: bool, code: Code, allocation: u8, buf: &mut [u8]) -> usize
-    requires room { 18 ≤ length buf.old }
-    requires key { code.key < 16 }
-    ensures within { result ≤ 18 }
-    ensures bytes { take result buf.new ≡ take allocation (sense_data descriptor code) }
-{
-    let mut fixed = [0; 18];
-    let mut short = [0; 8];
-    let sense: &[u8] = if descriptor {
-        write_descriptor(code, &mut short);
-        &short
-    } else {
-        write_fixed(&Sense { code, info: None }, &mut fixed);
-        &fixed
-    };
-    let len = sense.len().min(usize::from(allocation));
-    buf[..len].copy_from_slice(&sense[..len]);
-    len
 }

@@ -5,9 +5,11 @@ mod admitted;
 mod answers;
 mod checks;
 mod commands;
+mod replies;
 mod seats;
 mod state;
 mod target;
 
 pub use answers::{CommandOut, OpenFault};
+pub use pr_tasks::StepOut;
 pub use target::{Core, Opening, Room};

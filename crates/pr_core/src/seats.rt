@@ -5,10 +5,13 @@ ghost use Rattle.pr_model.specs.Worlds.{set_at};
 ghost use Rattle.pr_model.specs.Attentions.{is_attention};
 ghost use Rattle.pr_table.specs.Tables.{standing_of, removed_of};
 ghost use Rattle.pr_core.specs.Places.{IsAscending, IsPlace, Divides};
-ghost use Rattle.pr_core.specs.Telling.{told_seat};
+ghost use Rattle.pr_core.specs.Telling.{told_seat, marked_seat};
+ghost use Rattle.pr_core.specs.Stepping.{Did, HasWithin, Keeps, is_moving, task_after, with_task};
 
+use pr_io::Medium;
 use pr_rules::Attentions;
 use pr_table::{Change, Table};
+use pr_tasks::{StepOut, Task};
 use pr_words::{Code, Nexus, is_same, stands_before};
 use std::alloc::{AllocError, Global};
 
@@ -23,6 +26,8 @@ pub struct Seat {
     pub owner: Option<u64>,
     /// The unit attentions that wait for it.
     pub attentions: Attentions,
+    /// Its READ or WRITE under way.
+    pub task: Option<Task>,
 }
 
 /// The known nexuses, in their order. The memory of all is taken by `new`.
@@ -35,7 +40,7 @@ pub struct Seats {
 }
 
 impl Seats {
-    ghost use Rattle.pr_core.specs.Seats.{seat_of, count_of, owner_in, attentions_in, logged_in, logged_out, told_first};
+    ghost use Rattle.pr_core.specs.Seats.{seat_of, count_of, owner_in, attentions_in, task_in, logged_in, logged_out, told_first};
 
     /// Nobody is known.
     pub fn new(alloc: Global) -> Result<Seats, AllocError>
@@ -94,20 +99,66 @@ impl Seats {
                         nexus,
                         owner: Some(who),
                         attentions: Attentions::fresh(),
+                        task: None,
                     },
                 );
             }
         }
     }
 
-    /// A nexus is logged out.
+    /// A nexus is logged out, and its task is gone.
     pub fn log_out(&mut self, nexus: Nexus)
         ensures seat { seat_of self.new ≡ set_at (seat_of self.old) nexus
             (option_map logged_out (seat_of self.old nexus)) }
         ensures count { count_of self.new ≡ count_of self.old }
     {
         if let Ok(place) = self.place_of(nexus) {
-            self.items[place].owner = None;
+            let seat = &mut self.items[place];
+            seat.owner = None;
+            seat.task = None;
+        }
+    }
+
+    /// Whether a task of a nexus runs.
+    pub fn has_task(&self, nexus: Nexus) -> bool
+        ensures { result ≡ is_some (task_in (seat_of self.now nexus)) }
+    {
+        match self.place_of(nexus) {
+            Ok(place) => self.items[place].task.is_some(),
+            Err(_) => false,
+        }
+    }
+
+    /// A task of a known nexus begins.
+    pub fn begin(&mut self, nexus: Nexus, task: Task)
+        ensures seat { seat_of self.new ≡ set_at (seat_of self.old) nexus
+            (option_map (with_task (Some task)) (seat_of self.old nexus)) }
+        ensures count { count_of self.new ≡ count_of self.old }
+    {
+        if let Ok(place) = self.place_of(nexus) {
+            self.items[place].task = Some(task);
+        }
+    }
+
+    /// One step of the task of a nexus, between the medium and the block.
+    pub fn step<M: Medium>(
+        &mut self,
+        nexus: Nexus,
+        medium: &mut M,
+        block: &mut [u8; 512],
+    ) -> StepOut
+        requires { HasWithin (M.count medium.old) (task_in (seat_of self.old nexus)) }
+        ensures did { IfSome (task_in (seat_of self.old nexus)) (λ t. Did t result
+            (M.contents medium.old) (M.contents medium.new) block.old block.new) }
+        ensures seat { IfSome (task_in (seat_of self.old nexus)) (λ t. seat_of self.new
+            ≡ set_at (seat_of self.old) nexus
+            (option_map (with_task (task_after result t)) (seat_of self.old nexus))) }
+        ensures count { count_of self.new ≡ count_of self.old }
+        ensures medium { Keeps M.Medium medium.old medium.new result }
+    {
+        match self.place_of(nexus) {
+            Ok(place) => self.items[place].step(medium, block),
+            Err(_) => unreachable!(),
         }
     }
 
@@ -139,6 +190,16 @@ impl Seats {
             return;
         }
         tell_each(self.items.as_mut_slice(), caller, table, change);
+    }
+
+    /// Marks the tasks of the nexuses that a PERSISTENT RESERVE OUT removed, which the table has
+    /// served last, where they are to be aborted.
+    pub fn mark(&mut self, table: &Table, change: &Change)
+        ensures seat { seat_of self.new ≡ (λ n. option_map
+            (marked_seat change.now.abort (removed_of table.now)) (seat_of self.old n)) }
+        ensures count { count_of self.new ≡ count_of self.old }
+    {
+        mark_each(self.items.as_mut_slice(), table, change);
     }
 }
 
@@ -178,7 +239,54 @@ fn tell_each(seats: &mut [Seat], caller: Nexus, table: &Table, change: &Change)
     }
 }
 
+/// Marks the task of each seat whose nexus was removed.
+fn mark_each(seats: &mut [Seat], table: &Table, change: &Change)
+    ensures { seats.new ≡ map (marked_seat change.now.abort (removed_of table.now)) seats.old }
+{
+    for seat in seats.iter_mut() {
+        seat.mark(table, change);
+    }
+}
+
+/// Whether a task goes on after such a step.
+fn goes_on(out: StepOut) -> bool
+    ensures { result ≡ is_moving out }
+{
+    matches!(out, StepOut::Wrote { .. } | StepOut::Read { .. })
+}
+
 impl Seat {
+    /// Marks its task, where its nexus was removed and tasks are aborted.
+    fn mark(&mut self, table: &Table, change: &Change)
+        ensures { self.new ≡ marked_seat change.now.abort (removed_of table.now) self.old }
+    {
+        if change.abort
+            && let Some(task) = &mut self.task
+            && table.was_removed(self.nexus)
+        {
+            task.abort();
+        }
+    }
+
+    /// One step of its task.
+    fn step<M: Medium>(&mut self, medium: &mut M, block: &mut [u8; 512]) -> StepOut
+        requires { HasWithin (M.count medium.old) self.old.task }
+        ensures did { IfSome self.old.task (λ t. Did t result
+            (M.contents medium.old) (M.contents medium.new) block.old block.new) }
+        ensures seat { IfSome self.old.task (λ t. self.new
+            ≡ with_task (task_after result t) self.old) }
+        ensures medium { Keeps M.Medium medium.old medium.new result }
+    {
+        let Some(mut task) = self.task.take() else {
+            unreachable!()
+        };
+        let out = task.step(medium, block);
+        if goes_on(out) {
+            self.task = Some(task);
+        }
+        out
+    }
+
     /// Raises what its nexus is told.
     fn tell(&mut self, caller: Nexus, table: &Table, change: &Change)
         requires stay { (c : Code) → change.now.stay_code ≡ Some c → is_attention c ≡ true }

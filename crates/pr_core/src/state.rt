@@ -1,42 +1,53 @@
-ghost use Rattle.std.specs.Prelude.{◌≡◌, ◌≤◌, Some, is_some, true, length, IfOk};
+ghost use Rattle.std.specs.Prelude.{◌≡◌, ◌≤◌, ◌^◌, ℕ, List, Some, is_some, true, length};
 ghost use Rattle.pr_words.specs.declared.nexus.Nexus.{Nexus};
 ghost use Rattle.pr_grammar.specs.Standings.{is_registered};
 ghost use Rattle.pr_model.specs.Limits.{LIMIT};
 ghost use Rattle.pr_model.specs.Worlds.{Blocks, opened};
 ghost use Rattle.pr_model.specs.Keeping.{Nothing};
-ghost use Rattle.pr_model.specs.Entries.{entry, Login, Logout, Login_code, Left};
+ghost use Rattle.pr_model.specs.Entries.{entry, Login, Logout, Step, Login_code, Left};
 ghost use Rattle.pr_table.specs.Tables.{standing_of, limit_of};
 ghost use Rattle.pr_core.specs.Seats.{seat_of};
+ghost use Rattle.pr_core.specs.Fitting.{AllFit};
+ghost use Rattle.pr_core.specs.Stepping.{Keeps};
 
 use crate::seats::Seats;
+use pr_io::Medium;
 use pr_table::Table;
+use pr_tasks::StepOut;
 use pr_words::Nexus;
-use std::alloc::{AllocError, Global};
 
-/// How many nexuses can be registered.
-const REGISTRATIONS: usize = 64;
-
-/// What the target knows: registrations, reservation, and nexuses. Each registered nexus is known.
+/// What the target knows: registrations, reservation, nexuses and their tasks, over a medium of so
+/// many blocks. Each registered nexus is known.
 #[derive(Drop)]
 pub struct State {
     pub table: Table,
     pub seats: Seats,
+    pub blocks: u64,
     ghost limit: { limit_of table ≡ LIMIT },
     ghost within: { length (standing_of table).pairs ≤ LIMIT },
     ghost seated: { (n : Nexus) → is_registered (standing_of table).pairs n ≡ true → is_some (seat_of seats n) ≡ true },
+    ghost fits: { AllFit blocks (seat_of seats) },
+    ghost some: { 1 ≤ blocks },
+    ghost most: { blocks ≤ 2 ^ 40 },
 }
 
 impl State {
-    ghost use Rattle.pr_core.specs.States.{Depicts, Enters, owner_at, KeepsOthersAt};
+    ghost use Rattle.pr_core.specs.States.{AreBare, Depicts, Enters, EntersOver, owner_at, progress_at, KeepsOthersAt};
+    ghost use Rattle.pr_core.specs.Outs.{step_out, IsCarried, Progresses};
 
     /// Nobody is known and nothing is registered.
-    pub fn new(alloc: Global) -> Result<State, AllocError>
-        ensures { IfOk result (λ s. (m : Blocks) → Depicts s (opened m Nothing)) }
+    pub fn new(table: Table, seats: Seats, blocks: u64) -> State
+        requires bare { AreBare table seats }
+        requires some { 1 ≤ blocks }
+        requires most { blocks ≤ 2 ^ 40 }
+        ensures depicts { (m : Blocks) → m.count ≡ blocks → Depicts result (opened m Nothing) }
+        ensures blocks { result.blocks ≡ blocks }
     {
-        Ok(State {
-            table: Table::new(alloc, REGISTRATIONS)?,
-            seats: Seats::new(alloc)?,
-        })
+        State {
+            table,
+            seats,
+            blocks,
+        }
     }
 
     /// The code of the first refusal that applies, or 0.
@@ -46,6 +57,7 @@ impl State {
         ensures accepted { result ≡ 0 → owner_at self.new nexus ≡ Some who }
         ensures refused { (result ≡ 0 → ⊥) → self.new ≡ self.old }
         ensures others { KeepsOthersAt who self.old self.new }
+        ensures blocks { self.new.blocks ≡ self.old.blocks }
     {
         if version != 1 {
             return 4;
@@ -67,7 +79,32 @@ impl State {
         requires { owner_at self.old nexus ≡ Some who }
         ensures enters { Enters self.old self.new (entry who nexus Logout Left) }
         ensures others { KeepsOthersAt who self.old self.new }
+        ensures blocks { self.new.blocks ≡ self.old.blocks }
     {
         self.seats.log_out(nexus);
+    }
+
+    /// One step of the task of a nexus.
+    pub fn step<M: Medium>(
+        &mut self,
+        nexus: Nexus,
+        medium: &mut M,
+        block: &mut [u8; 512],
+    ) -> StepOut
+        requires task { is_some (progress_at self.old nexus) ≡ true }
+        requires size { M.count medium.old ≡ self.old.blocks }
+        ensures enters { (who : ℕ) (sent : List ℕ) → owner_at self.old nexus ≡ Some who
+            → IsCarried result sent block.old
+            → EntersOver (M.contents medium.old) (M.contents medium.new) self.old self.new
+            (entry who nexus (Step sent) (step_out result block.new)) }
+        ensures owner { owner_at self.new ≡ owner_at self.old }
+        ensures progress { Progresses result (progress_at self.old nexus)
+            (progress_at self.new nexus) }
+        ensures others { (who : ℕ) → owner_at self.old nexus ≡ Some who
+            → KeepsOthersAt who self.old self.new }
+        ensures medium { Keeps M.Medium medium.old medium.new result }
+        ensures blocks { self.new.blocks ≡ self.old.blocks }
+    {
+        self.seats.step(nexus, medium, block)
     }
 }

@@ -1,4 +1,4 @@
-use Rattle.std.proofs.Common.{◌≡◌, ◌<◌, ◌+◌, ◌∷◌, ◌++◌, true, cond, take, drop, is_ok, vec_len, vec_capacity, refl, sym, ap, subst, ◌∙◌, Some, List}
+use Rattle.std.proofs.Common.{◌≡◌, ◌<◌, ◌+◌, ◌∷◌, ◌++◌, true, cond, take, drop, is_ok, vec_len, vec_capacity, refl, sym, ap, subst, ◌∙◌, Some, None, List}
 use Rattle.pr_model.specs.Limits.{KNOWN}
 use Rattle.pr_model.specs.Worlds.{set_at}
 use Rattle.pr_core.specs.declared.seats.Seat.{Seat}
@@ -11,7 +11,7 @@ pub invariant_of-self-in-Err : goal.invariant_of-self-in-Err
 invariant_of-self-in-Err c =
     let self = c.args.self.now in
     let seats = self.items.items in
-    let t : Seat = record { nexus = c.args.nexus; owner = Some c.args.who; attentions = c.fresh.result } in
+    let t : Seat = record { nexus = c.args.nexus; owner = Some c.args.who; attentions = c.fresh.result; task = None } in
     let few : vec_len self.items < KNOWN = has_room (seat_in seats c.args.nexus) (vec_len self.items) KNOWN c.in-Err.ensures.seat c.requires in
     let done : is_ok c.insert.result ≡ true = c.insert.ensures.succeeds (below_both (vec_len self.items) KNOWN (vec_capacity self.items) few self.room) in
     let is : c.insert.new.self.items ≡ take c.in-Err.place seats ++ t ∷ drop c.in-Err.place seats = c.insert.ensures.items ∙ ap (λ b. cond b (take c.in-Err.place seats ++ t ∷ drop c.in-Err.place seats) seats) done in
@@ -34,11 +34,11 @@ pub returns-in-Err-clause-seat : goal.returns-in-Err-clause-seat
 returns-in-Err-clause-seat c =
     let self = c.args.self.now in
     let seats = self.items.items in
-    let t : Seat = record { nexus = c.args.nexus; owner = Some c.args.who; attentions = c.fresh.result } in
+    let t : Seat = record { nexus = c.args.nexus; owner = Some c.args.who; attentions = c.fresh.result; task = None } in
     let few : vec_len self.items < KNOWN = has_room (seat_in seats c.args.nexus) (vec_len self.items) KNOWN c.in-Err.ensures.seat c.requires in
     let done : is_ok c.insert.result ≡ true = c.insert.ensures.succeeds (below_both (vec_len self.items) KNOWN (vec_capacity self.items) few self.room) in
     let is : c.insert.new.self.items ≡ take c.in-Err.place seats ++ t ∷ drop c.in-Err.place seats = c.insert.ensures.items ∙ ap (λ b. cond b (take c.in-Err.place seats ++ t ∷ drop c.in-Err.place seats) seats) done in
     ap seat_in is
     ∙ inserted seats c.args.nexus c.in-Err.place t c.in-Err.ensures refl
-    ∙ ap (λ cs. set_at (seat_of self) c.args.nexus (Some (record { nexus = c.args.nexus; owner = Some c.args.who; attentions = cs }))) c.fresh.ensures
+    ∙ ap (λ cs. set_at (seat_of self) c.args.nexus (Some (record { nexus = c.args.nexus; owner = Some c.args.who; attentions = cs; task = None }))) c.fresh.ensures
     ∙ ap (λ o. set_at (seat_of self) c.args.nexus (Some (logged_in c.args.who c.args.nexus o))) (sym c.in-Err.ensures.seat)

@@ -9,6 +9,6 @@ returns-in-Ok-clause-seat c =
     let self = c.args.self.now in
     let s = c.index_mut.result.now in
     let at = at_place self.items.items c.args.nexus c.in-Ok.place s c.in-Ok.ensures c.index_mut.ensures.value in
-    written self.items.items c.args.nexus c.in-Ok.place (record { nexus = s.nexus; owner = s.owner; attentions = c.take.new.self }) c.in-Ok.ensures at.1
-    ∙ ap (λ cs. set_at (seat_of self) c.args.nexus (Some (record { nexus = s.nexus; owner = s.owner; attentions = cs }))) c.take.ensures.rest
+    written self.items.items c.args.nexus c.in-Ok.place (record { nexus = s.nexus; owner = s.owner; attentions = c.take.new.self; task = s.task }) c.in-Ok.ensures at.1
+    ∙ ap (λ cs. set_at (seat_of self) c.args.nexus (Some (record { nexus = s.nexus; owner = s.owner; attentions = cs; task = s.task }))) c.take.ensures.rest
     ∙ ap (λ o. set_at (seat_of self) c.args.nexus (option_map told_first o)) (sym at.0)

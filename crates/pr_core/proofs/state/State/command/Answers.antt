@@ -1,11 +1,64 @@
-use Rattle.std.proofs.Common.{take}
-use Rattle.pr_core.proofs.Admitting.{enters_ok, enters_err}
+use Rattle.std.proofs.Common.{take, ap, ◌∙◌, sym, subst}
+use Rattle.pr_core.specs.declared.answers.CommandOut.{CommandOut}
+use Rattle.pr_core.specs.States.{progress_at}
+use Rattle.pr_core.specs.Outs.{out_of, Begins, IsFed}
+use Rattle.pr_core.proofs.Admitting.{enters_unit, enters_conflict, enters_cdb, enters_served}
+use Rattle.pr_core.proofs.Going.{ended_begins, ended_fed, begun_fed, taken_long, same_tasks, same_idle, tasks_more}
 use Rattle.pr_core.proofs.state.State.command.Goals as goal
 
-pub returns-in-Ok-clause-enters : goal.returns-in-Ok-clause-enters
-returns-in-Ok-clause-enters c =
-    λ who owns. enters_ok c.args.self.now c.admit.new.self _ who c.args.nexus c.args.lun c.args.cdb.now (take c.args.out_len c.args.buf.now) c.in-Ok.admitted c.serve.result _ owns c.in-Ok.ensures.admits c.serve.ensures.serves
-
 pub returns-in-Err-clause-enters : goal.returns-in-Err-clause-enters
-returns-in-Err-clause-enters c =
-    λ who owns. enters_err c.args.self.now c.admit.new.self who c.args.nexus c.args.lun c.args.cdb.now (take c.args.out_len c.args.buf.now) c.in-Err.code _ owns c.in-Err.ensures.admits (c.checking.ensures.out _)
+returns-in-Err-clause-enters c who owns =
+    enters_unit c.args.self.now c.check_unit.new.self who c.args.nexus c.args.lun c.args.cdb.now (take c.args.out_len c.args.buf.now) c.in-Err.code _ owns c.requires.idle c.in-Err.ensures.passes (c.checking.ensures.out _)
+
+pub returns-in-Err-clause-begins : goal.returns-in-Err-clause-begins
+returns-in-Err-clause-begins c = ended_begins _ _ c.checking.ensures.ended (same_idle c.args.nexus c.args.self.now c.check_unit.new.self c.check_unit.ensures.progress c.requires.idle)
+
+pub returns-in-Err-clause-others : goal.returns-in-Err-clause-others
+returns-in-Err-clause-others c = same_tasks c.args.nexus c.args.self.now c.check_unit.new.self c.check_unit.ensures.progress
+
+pub returns-then-is_forbidden-clause-enters : goal.returns-then-is_forbidden-clause-enters
+returns-then-is_forbidden-clause-enters c who owns =
+    enters_conflict c.args.self.now c.check_unit.new.self who c.args.nexus c.args.lun c.args.cdb.now (take c.args.out_len c.args.buf.now) c.in-Ok.operation _ owns c.requires.idle c.in-Ok.ensures.passes (sym c.is_forbidden.ensures ∙ c.if-is_forbidden.true)
+    (ap (λ (r : CommandOut). out_of r c.args.buf.now) c.conflict.ensures)
+
+pub returns-then-is_forbidden-clause-begins : goal.returns-then-is_forbidden-clause-begins
+returns-then-is_forbidden-clause-begins c =
+    subst (λ (r : CommandOut). Begins r (progress_at c.check_unit.new.self c.args.nexus)) (sym c.conflict.ensures) (same_idle c.args.nexus c.args.self.now c.check_unit.new.self c.check_unit.ensures.progress c.requires.idle)
+
+pub returns-then-is_forbidden-clause-others : goal.returns-then-is_forbidden-clause-others
+returns-then-is_forbidden-clause-others c = same_tasks c.args.nexus c.args.self.now c.check_unit.new.self c.check_unit.ensures.progress
+
+pub serve-requires-clause-idle : goal.serve-requires-clause-idle
+serve-requires-clause-idle c = same_idle c.args.nexus c.args.self.now c.check_unit.new.self c.check_unit.ensures.progress c.requires.idle
+
+pub returns-in-Ok-check_cdb-clause-enters : goal.returns-in-Ok-check_cdb-clause-enters
+returns-in-Ok-check_cdb-clause-enters c who owns =
+    enters_served c.args.self.now c.check_unit.new.self c.serve.new.self who c.args.nexus c.args.lun c.args.cdb.now (take c.args.out_len c.args.buf.now) c.in-Ok.operation c.in-Ok-check_cdb.admitted c.serve.result c.serve.new.buf owns c.requires.idle
+    c.in-Ok.ensures.passes (sym c.is_forbidden.ensures ∙ c.if-is_forbidden.false) c.in-Ok-check_cdb.ensures c.serve.ensures.serves
+
+pub returns-in-Ok-check_cdb-clause-others : goal.returns-in-Ok-check_cdb-clause-others
+returns-in-Ok-check_cdb-clause-others c = tasks_more c.args.nexus c.args.self.now c.check_unit.new.self c.serve.new.self c.check_unit.ensures.progress c.serve.ensures.others
+
+pub returns-in-Err-check_cdb-clause-enters : goal.returns-in-Err-check_cdb-clause-enters
+returns-in-Err-check_cdb-clause-enters c who owns =
+    enters_cdb c.args.self.now c.check_unit.new.self who c.args.nexus c.args.lun c.args.cdb.now (take c.args.out_len c.args.buf.now) c.in-Ok.operation c.in-Err-check_cdb.code _ owns c.requires.idle c.in-Ok.ensures.passes
+    (sym c.is_forbidden.ensures ∙ c.if-is_forbidden.false) c.in-Err-check_cdb.ensures (c.checking-in-Err-check_cdb.ensures.out _)
+
+pub returns-in-Err-check_cdb-clause-begins : goal.returns-in-Err-check_cdb-clause-begins
+returns-in-Err-check_cdb-clause-begins c = ended_begins _ _ c.checking-in-Err-check_cdb.ensures.ended (same_idle c.args.nexus c.args.self.now c.check_unit.new.self c.check_unit.ensures.progress c.requires.idle)
+
+pub returns-in-Err-check_cdb-clause-others : goal.returns-in-Err-check_cdb-clause-others
+returns-in-Err-check_cdb-clause-others c = same_tasks c.args.nexus c.args.self.now c.check_unit.new.self c.check_unit.ensures.progress
+
+pub returns-in-Err-clause-fed : goal.returns-in-Err-clause-fed
+returns-in-Err-clause-fed c = ended_fed _ _ c.checking.ensures.ended
+
+pub returns-then-is_forbidden-clause-fed : goal.returns-then-is_forbidden-clause-fed
+returns-then-is_forbidden-clause-fed c = subst (λ (r : CommandOut). IsFed r c.args.out_len) (sym c.conflict.ensures) tt
+
+pub returns-in-Err-check_cdb-clause-fed : goal.returns-in-Err-check_cdb-clause-fed
+returns-in-Err-check_cdb-clause-fed c = ended_fed _ _ c.checking-in-Err-check_cdb.ensures.ended
+
+pub returns-in-Ok-check_cdb-clause-fed : goal.returns-in-Ok-check_cdb-clause-fed
+returns-in-Ok-check_cdb-clause-fed c =
+    begun_fed c.serve.result c.in-Ok-check_cdb.admitted (take c.args.out_len c.args.buf.now) c.args.out_len c.serve.ensures.begun c.in-Ok-check_cdb.ensures.3 (taken_long c.args.out_len c.args.buf.now c.requires.sent)

@@ -5,9 +5,9 @@ use Rattle.pr_model.specs.Limits.{KNOWN}
 use Rattle.pr_model.specs.Entries.{Login_code}
 use Rattle.pr_model.specs.Histories.{login_code}
 use Rattle.pr_core.specs.declared.seats.Seat.{Seat}
-use Rattle.pr_core.specs.Seats.{seat_of, count_of, owner_in, logged_in}
-use Rattle.pr_core.specs.States.{owner_at}
-use Rattle.pr_core.proofs.StateLaws.{login_depicts, stays_seated, others_stay, at_same, owner_now, accepted_code}
+use Rattle.pr_core.specs.Seats.{seat_of, count_of, owner_in, task_in, logged_in}
+use Rattle.pr_core.specs.States.{owner_at, progress_in}
+use Rattle.pr_core.proofs.StateLaws.{login_depicts, stays_seated, others_stay, others_go_on, login_fits, at_same, owner_now, accepted_code}
 use Rattle.pr_core.proofs.state.State.login.Goals as goal
 use Rattle.pr_core.proofs.state.State.login.Goals.{else-is_full-via-then-is_full+else-not-is_known, else-is_full-via-else-is_full}
 
@@ -25,7 +25,7 @@ returns-clause-enters c w depicts =
       | else-is_full-via-else-is_full v ↦ inr (sym c.is_full.ensures ∙ v.if-is_full.false)
     ] in
     let code : login_code w c.args.version c.args.nexus ≡ 0 = accepted_code self w c.args.version c.args.nexus depicts c.if-version-ne1.false c.if-nexus-eq0.false c.if-nexus-gt16.false nobody room in
-    (ap Login_code (sym code), rw code (login_depicts self _ c.args.who c.args.nexus refl c.log_in.ensures.seat c.log_in.ensures.count w depicts))
+    (ap Login_code (sym code), rw code (login_depicts self _ c.args.who c.args.nexus refl refl c.log_in.ensures.seat c.log_in.ensures.count w depicts))
 
 pub returns-clause-accepted : goal.returns-clause-accepted
 returns-clause-accepted c done =
@@ -39,5 +39,12 @@ pub returns-clause-others : goal.returns-clause-others
 returns-clause-others c other n differs owned =
     let before = seat_of c.args.self.now.seats in
     let nobody : is_some (owner_at c.args.self.now c.args.nexus) ≡ false = ap is_some (sym c.owner.ensures) ∙ sym c.is_some.ensures ∙ c.if-is_some.false in
-    ap (λ (seat : Nexus → Option Seat). owner_in (seat n)) c.log_in.ensures.seat
-    ∙ others_stay before c.args.nexus (Some (logged_in c.args.who c.args.nexus (before c.args.nexus))) other n (λ e. false≢true (sym nobody ∙ ap is_some e)) owned
+    let not_here : owner_in (before c.args.nexus) ≡ Some other → ⊥ = λ e. false≢true (sym nobody ∙ ap is_some e) in
+    let o = Some (logged_in c.args.who c.args.nexus (before c.args.nexus)) in (
+      ap (λ (seat : Nexus → Option Seat). owner_in (seat n)) c.log_in.ensures.seat ∙ others_stay before c.args.nexus o other n not_here owned,
+      ap (λ (seat : Nexus → Option Seat). progress_in (task_in (seat n))) c.log_in.ensures.seat ∙ others_go_on before c.args.nexus o other n not_here owned,
+    )
+
+pub invariant_of-self-clause-fits : goal.invariant_of-self-clause-fits
+invariant_of-self-clause-fits c =
+    rw c.log_in.ensures.seat (login_fits c.args.self.now.blocks c.args.who (seat_of c.args.self.now.seats) c.args.nexus c.args.self.now.fits)

@@ -3,6 +3,9 @@ use Rattle.pr_core.specs.declared.admitted.Admitted.{Admitted}
 use Rattle.pr_core.specs.declared.admitted.Admitted.TheVariants.{RequestSense}
 use Rattle.pr_core.specs.declared.answers.CommandOut.{CommandOut}
 use Rattle.pr_core.specs.Admits.{Serves}
+use Rattle.pr_core.specs.States.{progress_at}
+use Rattle.pr_core.specs.Outs.{Begins}
+use Rattle.pr_core.proofs.Going.{ended_begins, ended_begun, same_tasks, same_idle}
 use Rattle.pr_core.proofs.Admitting.{serves_sense, serves_reserve}
 use Rattle.pr_core.proofs.state.State.serve.Goals as goal
 
@@ -16,3 +19,20 @@ pub returns-in-ReserveOut-clause-serves : goal.returns-in-ReserveOut-clause-serv
 returns-in-ReserveOut-clause-serves c =
     subst (λ (a : Admitted). Serves c.args.self.now c.reserve_out.new.self c.args.nexus c.args.lun a c.reserve_out.result c.args.buf.now) (sym c.in-ReserveOut.is)
     (serves_reserve c.args.self.now c.reserve_out.new.self c.args.nexus c.args.lun c.in-ReserveOut.request c.in-ReserveOut.list c.reserve_out.result c.args.buf.now c.reserve_out.ensures.reserves)
+
+pub returns-in-RequestSense-clause-begins : goal.returns-in-RequestSense-clause-begins
+returns-in-RequestSense-clause-begins c =
+    subst (λ (r : CommandOut). Begins r (progress_at c.sense_code-code.new.self c.args.nexus)) (sym c.good-in-RequestSense.ensures) (same_idle c.args.nexus c.args.self.now c.sense_code-code.new.self c.sense_code-code.ensures.progress c.requires.idle)
+
+pub returns-in-RequestSense-clause-others : goal.returns-in-RequestSense-clause-others
+returns-in-RequestSense-clause-others c = same_tasks c.args.nexus c.args.self.now c.sense_code-code.new.self c.sense_code-code.ensures.progress
+
+pub returns-in-ReserveOut-clause-begins : goal.returns-in-ReserveOut-clause-begins
+returns-in-ReserveOut-clause-begins c =
+    ended_begins c.reserve_out.result _ c.reserve_out.ensures.ended (same_idle c.args.nexus c.args.self.now c.reserve_out.new.self c.reserve_out.ensures.progress c.requires.idle)
+
+pub returns-in-ReserveOut-clause-others : goal.returns-in-ReserveOut-clause-others
+returns-in-ReserveOut-clause-others c = same_tasks c.args.nexus c.args.self.now c.reserve_out.new.self c.reserve_out.ensures.progress
+
+pub returns-in-ReserveOut-clause-begun : goal.returns-in-ReserveOut-clause-begun
+returns-in-ReserveOut-clause-begun c = ended_begun c.reserve_out.result _ c.reserve_out.ensures.ended

@@ -1,0 +1,16 @@
+-- Tasks that fit a medium.
+use Rattle.std.specs.Prelude.{◌≡◌, ℕ, ◌≤◌, ◌+◌, Option, Some}
+use Rattle.pr_words.specs.declared.nexus.Nexus.{Nexus}
+use Rattle.pr_model.specs.Limits.{TRANSFER}
+use Rattle.pr_model.specs.Worlds.{Task}
+use Rattle.pr_core.specs.declared.seats.Seat.{Seat}
+use Rattle.pr_core.specs.Seats.{task_in}
+
+-- its blocks lie within so many, and aren't too many for one transfer
+pub record Fits (blocks : ℕ) (t : Task) : Type 0 where
+  pub within : t.lba + t.count ≤ blocks
+  pub few : t.count ≤ TRANSFER
+
+-- so do those of all tasks
+abbrev pub AllFit : ℕ → (Nexus → Option Seat) → Type 0
+AllFit blocks seat = (n : Nexus) (t : Task) → task_in (seat n) ≡ Some t → Fits blocks t
