@@ -11,7 +11,7 @@ use Rattle.pr_core.specs.declared.seats.Seats.{Seats}
 use Rattle.pr_core.specs.declared.state.State.{State}
 use Rattle.pr_core.specs.Seats.{seat_of, task_in}
 use Rattle.pr_core.specs.States.{AreBare, Depicts}
-use Rattle.pr_core.specs.Fitting.{AllFit}
+use Rattle.pr_core.specs.Fitting.{AllFit, AreOwned}
 
 pub bare_depicts : (s : State) (m : Blocks) → m.count ≡ s.blocks → AreBare s.table s.seats → Depicts s (opened m Nothing)
 bare_depicts s m count bare =
@@ -25,6 +25,9 @@ bare_depicts s m count bare =
 
 pub bare_fits : (t : Table) (s : Seats) (blocks : ℕ) → AreBare t s → AllFit blocks (seat_of s)
 bare_fits t s blocks bare n k is = let clash : None ≡ Some k = sym (ap (λ (f : Nexus → Option Seat). task_in (f n)) bare.seats) ∙ is in absurd cc
+
+pub bare_owned : (t : Table) (s : Seats) → AreBare t s → AreOwned (seat_of s)
+bare_owned t s bare n none = ap (λ (f : Nexus → Option Seat). task_in (f n)) bare.seats
 
 pub bare_seated : (t : Table) (s : Seats) (n : Nexus) → AreBare t s → is_registered (standing_of t).pairs n ≡ true → is_some (seat_of s n) ≡ true
 bare_seated t s n bare is = let clash = sym (ap (λ (x : Standing). is_registered x.pairs n) bare.standing) ∙ is in absurd cc

@@ -8,4 +8,5 @@ pub mod Reserving
 pub mod Bare
 pub mod Going
 pub mod Tasked
+pub mod Owned
 pub mod StepLaws

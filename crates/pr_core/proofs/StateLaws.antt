@@ -117,7 +117,7 @@ attentions_now : (who : ℕ) (n : Nexus) (o : Option Seat) → attentions_in (So
 attentions_now who n None = refl
 attentions_now who n (Some s) = refl
 
-task_now : (who : ℕ) (n : Nexus) (o : Option Seat) → task_in (Some (logged_in who n o)) ≡ task_in o
+pub task_now : (who : ℕ) (n : Nexus) (o : Option Seat) → task_in (Some (logged_in who n o)) ≡ task_in o
 task_now who n None = refl
 task_now who n (Some s) = refl
 
@@ -146,7 +146,7 @@ still_waiting : (o : Option Seat) → attentions_in (option_map logged_out o) �
 still_waiting None = refl
 still_waiting (Some s) = refl
 
-idle_now : (o : Option Seat) → task_in (option_map logged_out o) ≡ None
+pub idle_now : (o : Option Seat) → task_in (option_map logged_out o) ≡ None
 idle_now None = refl
 idle_now (Some s) = refl
 

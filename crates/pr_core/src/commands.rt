@@ -40,6 +40,7 @@ impl State {
         out_len: usize,
     ) -> CommandOut
         requires known { is_some (seat_of self.old.seats nexus) ≡ true }
+        requires owned { is_some (owner_at self.old nexus) ≡ true }
         requires idle { progress_at self.old nexus ≡ None }
         requires cdb { 0 < length cdb.now }
         requires room { 524288 ≤ length buf.old }
@@ -134,6 +135,7 @@ impl State {
     /// A command that no check refuses. Its data-in goes to the front of the buffer.
     fn serve(&mut self, nexus: Nexus, lun: u16, admitted: Admitted, buf: &mut [u8]) -> CommandOut
         requires known { is_some (seat_of self.old.seats nexus) ≡ true }
+        requires owned { is_some (owner_at self.old nexus) ≡ true }
         requires idle { progress_at self.old nexus ≡ None }
         requires fits { FitsIn self.old.blocks admitted }
         requires room { 524288 ≤ length buf.old }
@@ -178,6 +180,7 @@ impl State {
     /// A READ or WRITE: of no blocks it has ended at once, and of others its task begins.
     fn begin(&mut self, nexus: Nexus, task: Task) -> CommandOut
         requires known { is_some (seat_of self.old.seats nexus) ≡ true }
+        requires owned { is_some (owner_at self.old nexus) ≡ true }
         requires idle { progress_at self.old nexus ≡ None }
         requires fits { Fits self.old.blocks task }
         requires fresh { task ≡ new_task task.way task.lba task.count }

@@ -1,4 +1,4 @@
-ghost use Rattle.std.specs.Prelude.{◌≡◌, ◌≤◌, ◌^◌, ℕ, List, Some, is_some, true, length};
+ghost use Rattle.std.specs.Prelude.{◌≡◌, ◌≤◌, ◌^◌, ℕ, List, Some, None, is_some, true, length};
 ghost use Rattle.pr_words.specs.declared.nexus.Nexus.{Nexus};
 ghost use Rattle.pr_grammar.specs.Standings.{is_registered};
 ghost use Rattle.pr_model.specs.Limits.{LIMIT};
@@ -7,7 +7,7 @@ ghost use Rattle.pr_model.specs.Keeping.{Nothing};
 ghost use Rattle.pr_model.specs.Entries.{entry, Login, Logout, Step, Login_code, Left};
 ghost use Rattle.pr_table.specs.Tables.{standing_of, limit_of};
 ghost use Rattle.pr_core.specs.Seats.{seat_of};
-ghost use Rattle.pr_core.specs.Fitting.{AllFit};
+ghost use Rattle.pr_core.specs.Fitting.{AllFit, AreOwned};
 ghost use Rattle.pr_core.specs.Stepping.{Keeps};
 
 use crate::seats::Seats;
@@ -17,7 +17,7 @@ use pr_tasks::StepOut;
 use pr_words::Nexus;
 
 /// What the target knows: registrations, reservation, nexuses and their tasks, over a medium of so
-/// many blocks. Each registered nexus is known.
+/// many blocks. Each registered nexus is known, and each that has a task is logged in.
 #[derive(Drop)]
 pub struct State {
     pub table: Table,
@@ -27,6 +27,7 @@ pub struct State {
     ghost within: { length (standing_of table).pairs ≤ LIMIT },
     ghost seated: { (n : Nexus) → is_registered (standing_of table).pairs n ≡ true → is_some (seat_of seats n) ≡ true },
     ghost fits: { AllFit blocks (seat_of seats) },
+    ghost owned: { AreOwned (seat_of seats) },
     ghost some: { 1 ≤ blocks },
     ghost most: { blocks ≤ 2 ^ 40 },
 }
@@ -55,6 +56,7 @@ impl State {
         ensures enters { Enters self.old self.new
             (entry who nexus (Login version) (Login_code result)) }
         ensures accepted { result ≡ 0 → owner_at self.new nexus ≡ Some who }
+        ensures idle { result ≡ 0 → progress_at self.new nexus ≡ None }
         ensures refused { (result ≡ 0 → ⊥) → self.new ≡ self.old }
         ensures others { KeepsOthersAt who self.old self.new }
         ensures blocks { self.new.blocks ≡ self.old.blocks }

@@ -143,6 +143,7 @@ impl<M: Medium, D: Disk> Core<M, D> {
         ensures entry { Extends self.old self.new
             (entry who nexus (Login version) (Login_code result) ∷ []) }
         ensures accepted { result ≡ 0 → owner_of self.new nexus ≡ Some who }
+        ensures idle { result ≡ 0 → progress_of self.new nexus ≡ None }
         ensures refused { (result ≡ 0 → ⊥) → self.new ≡ self.old }
         ensures others { KeepsOthers who self.old self.new }
     {

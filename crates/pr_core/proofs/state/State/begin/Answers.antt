@@ -11,6 +11,7 @@ use Rattle.pr_core.proofs.Admitting.{task_begins}
 use Rattle.pr_core.proofs.StateLaws.{seated_same}
 use Rattle.pr_core.proofs.Going.{set_stays, set_here, set_owner, progress_is}
 use Rattle.pr_core.proofs.Tasked.{retasked, retasked_fits}
+use Rattle.pr_core.proofs.Owned.{retasked_owned}
 use Rattle.pr_core.proofs.state.State.begin.Goals as goal
 
 pub invariant_of-self-clause-seated : goal.invariant_of-self-clause-seated
@@ -21,6 +22,10 @@ pub invariant_of-self-clause-fits : goal.invariant_of-self-clause-fits
 invariant_of-self-clause-fits c =
     retasked_fits c.args.self.now.blocks (seat_of c.args.self.now.seats) (seat_of c.begin.new.self) c.args.nexus (Some c.args.task) c.begin.ensures.seat c.args.self.now.fits
     (λ u is. let same : c.args.task ≡ u = cc in subst (Fits c.args.self.now.blocks) same c.requires.fits)
+
+pub invariant_of-self-clause-owned : goal.invariant_of-self-clause-owned
+invariant_of-self-clause-owned c =
+    retasked_owned (seat_of c.args.self.now.seats) (seat_of c.begin.new.self) c.args.nexus (Some c.args.task) c.begin.ensures.seat c.requires.owned c.args.self.now.owned
 
 pub returns-clause-serves : goal.returns-clause-serves
 returns-clause-serves c lun buf w command sent depicts carries =

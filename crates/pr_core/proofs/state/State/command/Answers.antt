@@ -1,4 +1,5 @@
-use Rattle.std.proofs.Common.{take, ap, ◌∙◌, sym, subst}
+use Rattle.std.proofs.Common.{ℕ, Option, is_some, take, ap, ◌∙◌, sym, subst}
+use Rattle.pr_words.specs.declared.nexus.Nexus.{Nexus}
 use Rattle.pr_core.specs.declared.answers.CommandOut.{CommandOut}
 use Rattle.pr_core.specs.States.{progress_at}
 use Rattle.pr_core.specs.Outs.{out_of, Begins, IsFed}
@@ -30,6 +31,9 @@ returns-then-is_forbidden-clause-others c = same_tasks c.args.nexus c.args.self.
 
 pub serve-requires-clause-idle : goal.serve-requires-clause-idle
 serve-requires-clause-idle c = same_idle c.args.nexus c.args.self.now c.check_unit.new.self c.check_unit.ensures.progress c.requires.idle
+
+pub serve-requires-clause-owned : goal.serve-requires-clause-owned
+serve-requires-clause-owned c = ap (λ (owner : Nexus → Option ℕ). is_some (owner c.args.nexus)) c.check_unit.ensures.owner ∙ c.requires.owned
 
 pub returns-in-Ok-check_cdb-clause-enters : goal.returns-in-Ok-check_cdb-clause-enters
 returns-in-Ok-check_cdb-clause-enters c who owns =

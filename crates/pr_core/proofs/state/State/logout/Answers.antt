@@ -4,6 +4,7 @@ use Rattle.pr_core.specs.declared.seats.Seat.{Seat}
 use Rattle.pr_core.specs.Seats.{seat_of, owner_in, task_in, logged_out}
 use Rattle.pr_core.specs.States.{progress_in}
 use Rattle.pr_core.proofs.StateLaws.{logout_depicts, logout_fits, seated_same, others_stay, others_go_on}
+use Rattle.pr_core.proofs.Owned.{logout_owned}
 use Rattle.pr_core.proofs.state.State.logout.Goals as goal
 
 pub invariant_of-self-clause-seated : goal.invariant_of-self-clause-seated
@@ -11,6 +12,9 @@ invariant_of-self-clause-seated c n registered = rw c.log_out.ensures.seat (seat
 
 pub invariant_of-self-clause-fits : goal.invariant_of-self-clause-fits
 invariant_of-self-clause-fits c = rw c.log_out.ensures.seat (logout_fits c.args.self.now.blocks (seat_of c.args.self.now.seats) c.args.nexus c.args.self.now.fits)
+
+pub invariant_of-self-clause-owned : goal.invariant_of-self-clause-owned
+invariant_of-self-clause-owned c = rw c.log_out.ensures.seat (logout_owned (seat_of c.args.self.now.seats) c.args.nexus c.args.self.now.owned)
 
 pub returns-clause-enters : goal.returns-clause-enters
 returns-clause-enters c w depicts =

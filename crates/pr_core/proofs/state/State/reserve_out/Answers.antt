@@ -7,6 +7,7 @@ use Rattle.pr_model.proofs.Reaching.{acted_reaches}
 use Rattle.pr_table.specs.Tables.{standing_of, removed_of}
 use Rattle.pr_core.specs.Seats.{seat_of}
 use Rattle.pr_core.proofs.Reserving.{Served, does_here, seated_still, tells_by, tells_some, tells_owner, tells_progress, tells_fit, reserves_good, reserves_conflict, reserves_bad}
+use Rattle.pr_core.proofs.Owned.{same_owned}
 use Rattle.pr_core.proofs.state.State.reserve_out.Goals as goal
 
 pub tell-requires-clause-stay : goal.tell-requires-clause-stay
@@ -32,6 +33,9 @@ invariant_of-self c =
           tells_some (seat_of c.args.self.now.seats) (seat_of c.mark.new.self) c.args.nexus (acted LIMIT (standing_of c.args.self.now.table) c.args.nexus o) tells n
           ∙ seated_still c.args.self.now c.args.nexus o (standing_of c.serve.new.self) (removed_of c.serve.new.self) served n is;
       fits = tells_fit c.args.self.now.blocks (seat_of c.args.self.now.seats) (seat_of c.mark.new.self) c.args.nexus (acted LIMIT (standing_of c.args.self.now.table) c.args.nexus o) tells c.args.self.now.fits;
+      owned =
+          same_owned (seat_of c.args.self.now.seats) (seat_of c.mark.new.self) (tells_owner (seat_of c.args.self.now.seats) (seat_of c.mark.new.self) c.args.nexus (acted LIMIT (standing_of c.args.self.now.table) c.args.nexus o) tells)
+          (tells_progress (seat_of c.args.self.now.seats) (seat_of c.mark.new.self) c.args.nexus (acted LIMIT (standing_of c.args.self.now.table) c.args.nexus o) tells) c.args.self.now.owned;
       some = c.args.self.now.some;
       most = c.args.self.now.most;
     }

@@ -2,6 +2,7 @@ use Rattle.std.proofs.Common.{◌∙◌, refl}
 use std.Path.{fun_ext}
 use Rattle.pr_core.specs.Seats.{seat_of}
 use Rattle.pr_core.proofs.Sitting.{takes_some, takes_owner, takes_fit, takes_progress, senses}
+use Rattle.pr_core.proofs.Owned.{same_owned}
 use Rattle.pr_core.proofs.state.State.sense_code.Goals as goal
 
 pub invariant_of-self : goal.invariant_of-self
@@ -11,6 +12,9 @@ invariant_of-self c =
       within = c.args.self.now.within;
       seated = λ n is. takes_some (seat_of c.args.self.now.seats) (seat_of c.take_attention.new.self) c.args.nexus c.take_attention.ensures.seat n ∙ c.args.self.now.seated n is;
       fits = takes_fit c.args.self.now.blocks (seat_of c.args.self.now.seats) (seat_of c.take_attention.new.self) c.args.nexus c.take_attention.ensures.seat c.args.self.now.fits;
+      owned =
+          same_owned (seat_of c.args.self.now.seats) (seat_of c.take_attention.new.self) (takes_owner (seat_of c.args.self.now.seats) (seat_of c.take_attention.new.self) c.args.nexus c.take_attention.ensures.seat)
+          (takes_progress (seat_of c.args.self.now.seats) (seat_of c.take_attention.new.self) c.args.nexus c.take_attention.ensures.seat) c.args.self.now.owned;
       some = c.args.self.now.some;
       most = c.args.self.now.most;
     }

@@ -13,6 +13,7 @@ use Rattle.pr_core.proofs.StateLaws.{seated_same}
 use Rattle.pr_core.proofs.Going.{others_seated, set_stays, set_here, set_owner}
 use Rattle.pr_core.proofs.Tasked.{retasked_is, retasked_fits}
 use Rattle.pr_core.proofs.StepLaws.{the_task, has_within, seat_there, fits_after, progresses, moves}
+use Rattle.pr_core.proofs.Owned.{retasked_owned, runs_owned}
 use Rattle.pr_core.proofs.state.State.step.Goals as goal
 
 pub step-requires : goal.step-requires
@@ -29,6 +30,7 @@ invariant_of-self g c =
       within = self.within;
       seated = λ n is. ap (λ (k : Nexus → Option Seat). is_some (k n)) t.2 ∙ seated_same (with_task (task_after c.step.result t.0)) f c.args.nexus n ∙ self.seated n is;
       fits = retasked_fits self.blocks f h c.args.nexus (task_after c.step.result t.0) t.2 self.fits (λ u e. fits_after self.blocks c.step.result t.0 u (self.fits c.args.nexus t.0 t.1) e);
+      owned = retasked_owned f h c.args.nexus (task_after c.step.result t.0) t.2 (runs_owned f c.args.nexus t.0 self.owned t.1) self.owned;
       some = self.some;
       most = self.most;
     }
