@@ -10,3 +10,4 @@ pub mod Going
 pub mod Tasked
 pub mod Owned
 pub mod StepLaws
+mod Serving

@@ -3,7 +3,7 @@ ghost use Rattle.pr_model.specs.Worlds.{Blocks, opened};
 ghost use Rattle.pr_model.specs.Keeping.{Nothing};
 ghost use Rattle.pr_model.specs.Entries.{entry, Login, Command, Step, Logout, Login_code, Left};
 ghost use Rattle.pr_model.specs.Histories.{AreBlocksOf};
-ghost use Rattle.pr_core.specs.Outs.{out_of, step_out, IsCarried, IsFed, IsProper, Begins, Progresses};
+ghost use Rattle.pr_core.specs.Outs.{out_of, step_out, IsCarried, IsFed, IsProper, Begins, Progresses, IsEnded};
 
 use crate::answers::{CommandOut, OpenFault};
 use crate::seats::Seats;
@@ -185,6 +185,7 @@ impl<M: Medium, D: Disk> Core<M, D> {
         ensures fed { IsFed result out_len }
         ensures others { KeepsOthers who self.old self.new }
         ensures proper { IsProper result }
+        ensures ended { IsEnded result }
     {
         self.state.command(nexus, lun, cdb, buf, out_len)
     }

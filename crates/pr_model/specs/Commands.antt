@@ -1,5 +1,5 @@
 -- What a command is answered, and the world that it leaves (SPC-4).
-use Rattle.std.specs.Prelude.{ℕ, ◌+◌, ◌*◌, ◌-◌, ◌==◌, ◌&&◌, ◌||◌, nat_lt, not, Bool, true, List, [], ◌∷◌, ◌++◌, length, take, Option, Some, None, is_some, if◌then◌else◌}
+use Rattle.std.specs.Prelude.{ℕ, ◌+◌, ◌*◌, ◌-◌, ◌==◌, ◌&&◌, ◌||◌, nat_lt, not, Bool, true, false, List, [], ◌∷◌, ◌++◌, length, take, Option, Some, None, is_some, if◌then◌else◌}
 use Rattle.pr_words.specs.declared.nexus.Nexus.{Nexus}
 use Rattle.pr_words.specs.declared.code.Code.{Code}
 use Rattle.pr_words.specs.declared.code.Status.TheVariants as status
@@ -11,6 +11,8 @@ use Rattle.pr_grammar.specs.Standings.{Standing}
 use Rattle.pr_grammar.specs.Senses.{fixed_sense, descriptor_sense}
 use Rattle.pr_grammar.specs.declared.cdb.Command.{Command}
 use Rattle.pr_grammar.specs.declared.cdb.Command.TheVariants.{TestUnitReady, RequestSense, Inquiry, ReadCapacity10, ReadCapacity16, ReportLuns, Read, Write, SynchronizeCache, ReserveIn, ReserveOut}
+use Rattle.pr_grammar.specs.declared.operation.OperationCode.{OperationCode}
+use Rattle.pr_grammar.specs.declared.operation.OperationCode.TheVariants as operations
 use Rattle.pr_grammar.specs.Operations.{operation_at, length_of, class_of, is_unconditional}
 use Rattle.pr_grammar.specs.Cdbs.{operation_code, is_naca, command_of}
 use Rattle.pr_grammar.specs.declared.param.OutList.{OutList}
@@ -85,9 +87,16 @@ attention_check w n op [] = None
 attention_check w n op (c ∷ cs) =
     if is_unconditional op then None else Some (answer (record w { attentions = set_at w.attentions n cs }) (checking c))
 
--- an operation code of the table
+-- the operation codes that are served yet
+abbrev pub serves : Option OperationCode → Bool
+serves (Some operations.TestUnitReady) = true
+serves (Some operations.RequestSense) = true
+serves (Some operations.ReserveIn) = true
+serves (Some operations.ReserveOut) = true
+serves _ = false
+
 abbrev pub is_served : ℕ → Bool
-is_served op = is_some (operation_at op)
+is_served op = serves (operation_at op)
 
 -- by the logical unit, and by what waits to be reported
 abbrev pub unit_checks : World → Nexus → ℕ → ℕ → List (Option Answer)
