@@ -1,5 +1,5 @@
 -- The parts of a work buffer.
-use Rattle.std.proofs.Common.{◌≡◌, ℕ, ◌+◌, ◌-◌, ◌≤◌, ◌<◌, ◌⊎◌, inl, inr, true, false, leb, List, [], ◌∷◌, ◌++◌, length, take, drop, sym, ap, ◌∙◌, arith}
+use Rattle.std.proofs.Common.{◌≡◌, ℕ, ◌+◌, ◌-◌, ◌≤◌, ◌<◌, ◌⊎◌, inl, inr, true, false, leb, Option, None, List, [], ◌∷◌, ◌++◌, length, take, drop, sym, ap, ◌∙◌, arith}
 use Rattle.std.proofs.lemmas.List.{drop_at, drop-take, length-take, length-drop, drop_all}
 use Rattle.std.proofs.lemmas.Bool.Decides.{leb_tells}
 use Rattle.pr_words.specs.declared.nexus.Nexus.{Nexus}
@@ -10,7 +10,9 @@ use Rattle.pr_io.specs.declared.outside.Disk as disks
 use Rattle.pr_core.specs.declared.target.Core.{Core}
 use Rattle.pr_core.specs.declared.answers.CommandOut.{CommandOut}
 use Rattle.pr_core.specs.View.{Extends}
-use Rattle.pr_core.specs.Outs.{out_of}
+use Rattle.pr_core.specs.declared.answers.CommandOut.TheVariants as answers
+use Rattle.pr_core.specs.States.{Progress}
+use Rattle.pr_core.specs.Outs.{out_of, IsEnded, Begins}
 
 -- a command that was run on the data of a buffer
 pub command_entry : {M D : Type 0} {gm : media.Ghosts M} {gd : disks.Ghosts D} (old new : Core M D gm gd) (who lun sent : ℕ) (n : Nexus) (cdb work front data_out buf : List ℕ) (out : CommandOut)
@@ -35,3 +37,8 @@ pub data_out : (work : List ℕ) (body sent : ℕ) → body ≤ length work → 
 data_out work body sent within is =
     let size : sent ≡ body - 20 = omega (arith, is, length-drop 20 (take body work), length-take body work, within) in
     ap (λ (k : ℕ). take k (drop 20 work)) size ∙ cut_data work body (leb_tells 20 body)
+
+-- a command that has ended leaves no task
+pub ended_idle : (out : CommandOut) (now : Option Progress) → IsEnded out → Begins out now → now ≡ None
+ended_idle (answers.Ended status sense len) now ended begins = begins
+ended_idle (answers.Started way count) now ended begins = absurd ended

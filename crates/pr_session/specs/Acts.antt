@@ -3,7 +3,7 @@ use Rattle.std.specs.Prelude.{◌≡◌, ℕ, ◌≤◌, List, take, drop, Optio
 use Rattle.pr_words.specs.declared.limits.TheConstants.{DATA, COMMAND_HEAD}
 use Rattle.pr_words.specs.declared.nexus.Nexus.{Nexus}
 use Rattle.pr_model.specs.Entries as entries
-use Rattle.pr_core.specs.Outs.{out_of, IsProper}
+use Rattle.pr_core.specs.Outs.{out_of, IsProper, IsEnded}
 use Rattle.pr_session.specs.declared.act.Act.{Act}
 use Rattle.pr_session.specs.declared.act.Act.TheVariants.{Login, Command, Logout}
 use Rattle.pr_session.specs.declared.act.Out.{Out}
@@ -26,7 +26,7 @@ outcome_of outs.Logout work = entries.Left
 -- an outcome that an act can have
 abbrev pub Fits : Act → Out → Type 0
 Fits (Login version) (outs.Login code) = Unit {0}
-Fits (Command lun cdb sent) (outs.Command out) = IsProper out
+Fits (Command lun cdb sent) (outs.Command out) = IsProper out × IsEnded out
 Fits Logout outs.Logout = Unit {0}
 Fits _ _ = ⊥
 
@@ -35,18 +35,6 @@ abbrev pub IsShort : Act → Type 0
 IsShort (Login version) = Unit {0}
 IsShort (Command lun cdb sent) = sent ≤ DATA
 IsShort Logout = Unit {0}
-
--- the nexus of an act other than a login is logged in under its number before it
-abbrev pub IsOwner : Act → (Nexus → Option ℕ) → Nexus → ℕ → Type 0
-IsOwner (Login version) owner n who = Unit {0}
-IsOwner (Command lun cdb sent) owner n who = owner n ≡ Some who
-IsOwner Logout owner n who = owner n ≡ Some who
-
--- who is logged in after an act: the nexus, where its login was accepted, and all as before after a command
-abbrev pub Owns : Act → Out → (Nexus → Option ℕ) → (Nexus → Option ℕ) → Nexus → ℕ → Type 0
-Owns (Login version) (outs.Login code) before now n who = code ≡ 0 → now n ≡ Some who
-Owns (Command lun cdb sent) out before now n who = now ≡ before
-Owns _ out before now n who = Unit {0}
 
 -- an outcome with which a command has ended, or that isn't a command's
 abbrev pub Ends : entries.Out → Type 0

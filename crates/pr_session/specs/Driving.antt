@@ -6,13 +6,14 @@ use Rattle.pr_model.specs.Runs.{Makes}
 use Rattle.pr_io.specs.declared.outside.Medium as media
 use Rattle.pr_io.specs.declared.outside.Disk as disks
 use Rattle.pr_core.specs.declared.target.Core.{Core}
-use Rattle.pr_core.specs.View.{owner_of, Extends}
+use Rattle.pr_core.specs.View.{Extends}
+use Rattle.pr_session.specs.Coming.{IsIdleIn}
 
--- the core has the lane's nexus logged in
+-- the core has the lane's nexus logged in, and no task of it runs: no command that begins one is served yet
 abbrev pub Agrees : {M D : Type 0} {gm : media.Ghosts M} {gd : disks.Ghosts D} → Phase → ℕ → Core M D gm gd → Type 0
 Agrees Fresh who c = Unit {0}
-Agrees (In n) who c = owner_of c n ≡ Some who
-Agrees (Busy n j) who c = owner_of c n ≡ Some who
+Agrees (In n) who c = IsIdleIn c who n
+Agrees (Busy n j) who c = IsIdleIn c who n
 Agrees Dead who c = Unit {0}
 
 -- the core has each lane's nexus logged in by the number of its place

@@ -6,4 +6,5 @@ pub mod States
 pub mod Sessions
 pub mod Turning
 pub mod Feeding
+pub mod Coming
 pub mod Driving

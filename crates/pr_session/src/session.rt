@@ -11,14 +11,15 @@ ghost use Rattle.pr_link.specs.Replies.{IsWritable, reply_frame, data_in_of};
 ghost use Rattle.pr_model.specs.Entries.{entry};
 ghost use Rattle.pr_model.specs.Lanes.{Lane, lane, turn, broken, asked, fresh, dead, arrived, rejected, turned, place_after, phase_after_login, after_command};
 ghost use Rattle.pr_model.specs.Lanes as lanes;
-ghost use Rattle.pr_core.specs.Outs.{IsProper, out_of};
-ghost use Rattle.pr_core.specs.View.{owner_of, KeepsOthers, Extends};
+ghost use Rattle.pr_core.specs.Outs.{IsProper, IsEnded, out_of};
+ghost use Rattle.pr_core.specs.View.{KeepsOthers, Extends};
 ghost use Rattle.pr_link.specs.Streams as streams;
 ghost use Rattle.pr_link.specs.Deframer.{stream_of, held_of, place_of};
 ghost use Rattle.pr_session.specs.Streams.{IsIntact};
 ghost use Rattle.pr_session.specs.Feeding.{fed};
 ghost use Rattle.pr_session.specs.States.{IsSettledIn, phase_of, living, rejection_at, rejection_in};
-ghost use Rattle.pr_session.specs.Acts.{act_of, outcome_of, Fits, IsShort, IsOwner, Owns};
+ghost use Rattle.pr_session.specs.Acts.{act_of, outcome_of, Fits, IsShort};
+ghost use Rattle.pr_session.specs.Coming.{IsOwner, Owns};
 
 use crate::act::{Act, Out, Want};
 use crate::asked::Asked;
@@ -278,13 +279,13 @@ impl Session {
         nexus: Nexus,
         act: &Act,
     ) -> Out
-        requires owner { IsOwner act.now (owner_of core.old) nexus who }
+        requires owner { IsOwner act.now core.old nexus who }
         requires short { IsShort act.now }
         ensures entry { Extends core.old core.new (entry who nexus (act_of act.now (work_of self.old))
             (outcome_of result (work_of self.new)) ∷ []) }
         ensures fits { Fits act.now result }
         ensures keeps { (self.new.state ≡ self.old.state) × (self.new.deframer ≡ self.old.deframer) }
-        ensures owns { Owns act.now result (owner_of core.old) (owner_of core.new) nexus who }
+        ensures owns { Owns act.now result core.new nexus who }
         ensures others { KeepsOthers who core.old core.new }
     {
         match *act {
@@ -347,7 +348,8 @@ impl Session {
 
     /// A command is answered.
     fn answer_command(&mut self, head: Frame, nexus: Nexus, out: CommandOut)
-        requires { IsProper out }
+        requires proper { IsProper out }
+        requires ended { IsEnded out }
         ensures turned { (held : List ℕ) (place : ℕ) → held ≡ held_of self.old.deframer →
             place ≡ place_of self.old.deframer → HasTurned self.new
             (after_command nexus (streams.frame_of head []) held place
@@ -355,8 +357,13 @@ impl Session {
         ensures rejection { rejection_of self.new ≡ None }
     {
         self.state = State::In(nexus);
-        let CommandOut::Ended { status, sense, len } = out;
-        self.reply_with(head.lun, head.tag, &Reply::of_command(status, sense, len));
+        match out {
+            CommandOut::Ended { status, sense, len } => {
+                let reply = Reply::of_command(status, sense, len);
+                self.reply_with(head.lun, head.tag, &reply);
+            }
+            CommandOut::Started { .. } => unreachable!(),
+        }
     }
 
     /// A Logout is answered, and the session ends.

@@ -7,8 +7,9 @@ ghost use Rattle.pr_model.specs.Entries.{entry, Command};
 ghost use Rattle.pr_link.specs.Replies.{IsWritable, reply_frame, data_in_of};
 ghost use Rattle.pr_words.specs.declared.limits.TheConstants.{DATA, HELD, COMMAND_HEAD};
 ghost use Rattle.pr_link.specs.Deframer.{stream_of, held_of};
-ghost use Rattle.pr_core.specs.Outs.{out_of, IsProper};
-ghost use Rattle.pr_core.specs.View.{owner_of, Extends};
+ghost use Rattle.pr_core.specs.Outs.{out_of, IsProper, IsEnded};
+ghost use Rattle.pr_core.specs.View.{KeepsOthers, Extends};
+ghost use Rattle.pr_session.specs.Coming.{IsIdleIn};
 ghost use Rattle.pr_session.specs.declared.work.TheConstants.{ROOM};
 ghost use Rattle.pr_session.specs.Streams.{IsIntact, Receives};
 
@@ -90,13 +91,15 @@ impl Work {
         cdb: &RawCdb,
         out_len: usize,
     ) -> CommandOut
-        requires owner { owner_of core.old nexus ≡ Some who }
+        requires idle { IsIdleIn core.old who nexus }
         requires sent { out_len ≤ DATA }
         ensures entry { Extends core.old core.new (entry who nexus
             (Command lun cdb.now (take out_len (drop COMMAND_HEAD (bytes_of self.old))))
             (out_of result (drop COMMAND_HEAD (bytes_of self.new))) ∷ []) }
-        ensures owner { owner_of core.new ≡ owner_of core.old }
+        ensures idle { IsIdleIn core.new who nexus }
+        ensures others { KeepsOthers who core.old core.new }
         ensures proper { IsProper result }
+        ensures ended { IsEnded result }
     {
         command_on(core, who, nexus, lun, cdb.bytes(), &mut self.bytes, out_len)
     }
@@ -140,15 +143,17 @@ fn command_on<M: Medium, D: Disk>(
     work: &mut [u8],
     out_len: usize,
 ) -> CommandOut
-    requires owner { owner_of core.old nexus ≡ Some who }
+    requires idle { IsIdleIn core.old who nexus }
     requires cdb { (0 < length cdb.now) × (length cdb.now ≤ 16) }
     requires room { length work.old ≡ HELD }
     requires sent { out_len ≤ DATA }
     ensures entry { Extends core.old core.new (entry who nexus
         (Command lun cdb.now (take out_len (drop COMMAND_HEAD work.old)))
         (out_of result (drop COMMAND_HEAD work.new)) ∷ []) }
-    ensures owner { owner_of core.new ≡ owner_of core.old }
+    ensures idle { IsIdleIn core.new who nexus }
+        ensures others { KeepsOthers who core.old core.new }
     ensures proper { IsProper result }
+        ensures ended { IsEnded result }
 {
     let (_, data) = work.split_at_mut(COMMAND_HEAD);
     core.command(who, nexus, lun, cdb, data, out_len)
