@@ -6,24 +6,24 @@ use Rattle.std.proofs.lemmas.List.Concat.{flat_map-append, flat_map-cons}
 use Rattle.std.proofs.lemmas.List.Elements.{All-nil, All-append, All-cons}
 use Rattle.pr_io.specs.Streams.{Took, Put}
 use Rattle.pr_io.specs.Causes.{next_fault}
-use Rattle.pr_io.specs.Told.{ToldSink, ToldStreams, Told, NoneFailed}
+use Rattle.pr_io.specs.Told.{ToldMedium, ToldSink, ToldStreams, Told, told_medium, NoneFailed}
 use Rattle.pr_io.proofs.Pieces.{put_more, took_more, put_nothing, took_nothing}
 use Rattle.pr_grammar.specs.Schedules.{Record, IsRecord, spelled_record}
 use Rattle.pr_grammar.proofs.Records.{not_whole_and_broken, not_whole_and_long, not_broken_and_long, broken_once}
 use Rattle.pr_model.specs.Keeping.{Nothing}
-use Rattle.pr_model.specs.Worlds.{Blocks, World, opened}
+use Rattle.pr_model.specs.Worlds.{opened}
 use Rattle.pr_model.specs.Entries.{History}
-use Rattle.pr_model.specs.Histories.{after, IsLegalOver}
 use Rattle.pr_model.specs.Lanes.{Lane, fresh}
 use Rattle.pr_model.specs.Runs.{deed, IsRun}
-use Rattle.pr_model.proofs.HistoryLaws.{after-append, legal-append}
 use Rattle.pr_model.proofs.RunLaws.{run-append}
+use Rattle.pr_model.proofs.Walk.{legal_is_fenced}
 use Rattle.pr_io.specs.declared.outside.Medium as media
 use Rattle.pr_io.specs.declared.outside.Disk as disks
 use Rattle.pr_core.specs.declared.target.Core.{Core}
-use Rattle.pr_core.specs.View.{StandsFor, blocks_of, Extends}
+use Rattle.pr_core.specs.View.{Extends, medium_of}
+use Rattle.pr_core.proofs.Entering.{extends_none, extends_append}
 use Rattle.pr_tool.specs.Reading.{Stops}
-use Rattle.pr_tool.specs.Exits.{HasRun, RunEnds, Stands, GoesOn, Causes, IsEarlier, Decides}
+use Rattle.pr_tool.specs.Exits.{IsOpened, HasSameDevices, IsServedOn, HasRun, RunEnds, Stands, GoesOn, Causes, IsEarlier, Decides}
 use Rattle.pr_tool.specs.Stops.{Did, WasCut, StopsBy, exit_at, exit_of}
 use Rattle.pr_tool.specs.declared.exit.Exit.{Exit}
 use Rattle.pr_tool.specs.declared.exit.Exit.TheVariants as exits
@@ -33,8 +33,20 @@ use Rattle.pr_tool.specs.declared.replay.Stop.{Stop}
 use Rattle.pr_tool.specs.declared.replay.Stop.TheVariants as stop
 use Rattle.pr_tool.proofs.Causes.{Carries, carries_all, carries_more, at_place, done_whole, broken_broken, too_long_long}
 
-pub run_first : {M D : Type 0} {gm : media.Ghosts M} {gd : disks.Ghosts D} (lanes budget : ℕ) (c : Core M D gm gd) (a : ToldStreams) (now : List Lane) → ((m : Blocks) → m.count ≡ blocks_of c → StandsFor c (opened m Nothing)) → now ≡ replicate lanes fresh → GoesOn lanes budget budget c (blocks_of c) a a now
-run_first lanes budget c a now opening is =
+-- what an opened core did, it served over its medium
+served : {M D : Type 0} {gm : media.Ghosts M} {gd : disks.Ghosts D} (start core : Core M D gm gd) (h : History) → IsOpened start → Extends start core h
+    → IsServedOn (told_medium gm (medium_of start)) (told_medium gm (medium_of core)) h
+served start core h opens extends =
+    record {
+      legal = λ m count holds. extends.legal (opened m Nothing) (opens m count holds);
+      fenced = λ m count holds. legal_is_fenced (opened m Nothing) h tt (extends.legal (opened m Nothing) (opens m count holds));
+      holds = λ m count holds. (extends.leads (opened m Nothing) (opens m count holds)).1;
+      blocks = core.size ∙ extends.blocks ∙ sym start.size;
+      faults = extends.counted;
+    }
+
+pub run_first : {M D : Type 0} {gm : media.Ghosts M} {gd : disks.Ghosts D} (lanes budget : ℕ) (c : Core M D gm gd) (a : ToldStreams) (now : List Lane) → IsOpened c → now ≡ replicate lanes fresh → GoesOn lanes budget budget c c a a now
+run_first lanes budget c a now opens is =
     record {
       run =
           record {
@@ -47,10 +59,11 @@ run_first lanes budget c a now opening is =
             valid = All-nil (IsRecord lanes);
             within = omega arith;
             puts = put_nothing a.sink.written;
-            legal = λ m count. tt;
+            served = served c c [] opens (extends_none c);
             runs = (refl, is);
           };
-      stands = opening;
+      opens = opens;
+      extends = extends_none c;
       counted = omega arith;
       calm = (refl, refl);
     }
@@ -66,16 +79,11 @@ size_more records r =
     flat_map-append spelled_record records (r ∷ []) ∙ ap (λ (x : List ℕ). flat_map spelled_record records ++ x) (flat_map-cons spelled_record r [] ∙ append-nil (spelled_record r)) in
     ap length text ∙ length-append (flat_map spelled_record records) (spelled_record r)
 
--- the entries of one more record are legal behind those before
-legal_more : {M D : Type 0} {gm : media.Ghosts M} {gd : disks.Ghosts D} (lanes budget left blocks : ℕ) (c1 c2 : Core M D gm gd) (a b : ToldStreams) (before : List Lane) (es : History)
-    → (s : GoesOn lanes budget left c1 blocks a b before) → Extends c1 c2 es → IsLegalOver blocks Nothing (s.run.entries ++ es)
-legal_more lanes budget left blocks c1 c2 a b before es s extends m count =
-    legal-append (opened m Nothing) s.run.entries es (s.run.legal m count) (extends.legal (after (opened m Nothing) s.run.entries) (s.stands m count))
-
 -- one more record that ran
-pub run_more : {M D : Type 0} {gm : media.Ghosts M} {gd : disks.Ghosts D} (lanes budget left size : ℕ) (c1 c2 : Core M D gm gd) (blocks : ℕ) (a b c : ToldStreams) (before now : List Lane)
-    → GoesOn lanes budget left c1 blocks a b before → Did lanes left b c c1 before c2 now size → GoesOn lanes budget (left - size) c2 blocks a c now
-run_more lanes budget left size c1 c2 blocks a b c before now s did =
+pub run_more : {M D : Type 0} {gm : media.Ghosts M} {gd : disks.Ghosts D} (lanes budget left size : ℕ) (c0 c1 c2 : Core M D gm gd) (a b c : ToldStreams) (before now : List Lane)
+    → GoesOn lanes budget left c0 c1 a b before → Did lanes left b c c1 before c2 now size → GoesOn lanes budget (left - size) c0 c2 a c now
+run_more lanes budget left size c0 c1 c2 a b c before now s did =
+    let extends : Extends c0 c2 (s.run.entries ++ did.ran.entries) = extends_append c0 c1 c2 s.run.entries did.ran.entries s.extends did.ran.extends in
     let counted : length (flat_map spelled_record (s.run.records ++ did.first ∷ [])) + (left - size) ≡ budget = omega (arith, size_more s.run.records did.first, s.counted, did.counted, did.within) in
     record {
       run =
@@ -89,21 +97,19 @@ run_more lanes budget left size c1 c2 blocks a b c before now s did =
             valid = All-append (IsRecord lanes) s.run.records (did.first ∷ []) s.run.valid (All-cons (IsRecord lanes) did.first [] did.valid (All-nil (IsRecord lanes)));
             within = omega (arith, counted);
             puts = put_more a.sink.written b.sink.written c.sink.written s.run.output did.ran.output s.run.puts did.ran.puts;
-            legal = legal_more lanes budget left blocks c1 c2 a b before did.ran.entries s did.ran.extends;
+            served = served c0 c2 (s.run.entries ++ did.ran.entries) s.opens extends;
             runs = run-append (replicate lanes fresh) s.run.records (deed s.run.entries s.run.output) before did.first (deed did.ran.entries did.ran.output) now s.run.runs did.ran.acts;
           };
-      stands =
-          λ m count.
-          subst (λ (w : World). StandsFor c2 w) (sym (after-append (opened m Nothing) s.run.entries did.ran.entries))
-          (did.ran.extends.leads (after (opened m Nothing) s.run.entries) (s.stands m count));
+      opens = s.opens;
+      extends = extends;
       counted = counted;
       calm = (did.calm.0 ∙ s.calm.0, did.calm.1 ∙ s.calm.1);
     }
 
 -- one more record that was cut
-run_cut : {M D : Type 0} {gm : media.Ghosts M} {gd : disks.Ghosts D} (lanes budget left : ℕ) (c1 c2 : Core M D gm gd) (blocks : ℕ) (a b c : ToldStreams) (before : List Lane)
-    → GoesOn lanes budget left c1 blocks a b before → WasCut lanes left b c c1 before c2 → RunEnds lanes budget blocks exits.WriteFault a c
-run_cut lanes budget left c1 c2 blocks a b c before s did = (
+run_cut : {M D : Type 0} {gm : media.Ghosts M} {gd : disks.Ghosts D} (lanes budget left : ℕ) (c0 c1 c2 : Core M D gm gd) (a b c : ToldStreams) (before : List Lane)
+    → GoesOn lanes budget left c0 c1 a b before → WasCut lanes left b c c1 before c2 → RunEnds lanes budget (told_medium gm (medium_of c0)) (told_medium gm (medium_of c2)) exits.WriteFault a c
+run_cut lanes budget left c0 c1 c2 a b c before s did = (
   did.last,
   record {
     records = s.run.records ++ did.first ∷ [];
@@ -115,7 +121,7 @@ run_cut lanes budget left c1 c2 blocks a b c before s did = (
     valid = All-append (IsRecord lanes) s.run.records (did.first ∷ []) s.run.valid (All-cons (IsRecord lanes) did.first [] did.valid (All-nil (IsRecord lanes)));
     within = omega (arith, size_more s.run.records did.first, s.counted, did.within);
     puts = put_more a.sink.written b.sink.written c.sink.written s.run.output did.ran.output s.run.puts did.ran.puts;
-    legal = legal_more lanes budget left blocks c1 c2 a b before did.ran.entries s did.ran.extends;
+    served = served c0 c2 (s.run.entries ++ did.ran.entries) s.opens (extends_append c0 c1 c2 s.run.entries did.ran.entries s.extends did.ran.extends);
     runs = (
       s.run.records,
       did.first,
@@ -132,8 +138,8 @@ run_cut lanes budget left c1 c2 blocks a b c before s did = (
 )
 
 -- a run that stops behind some bytes that are no record
-abbrev with_tail : (lanes budget blocks : ℕ) (a b c : ToldStreams) (last : List Lane) (tail : List ℕ) → HasRun IsRun lanes budget blocks a b last [] → Took b.source.rest c.source.rest tail → c.sink ≡ b.sink → HasRun IsRun lanes budget blocks a c last tail
-with_tail lanes budget blocks a b c last tail run took same =
+abbrev with_tail : (lanes budget : ℕ) (old new : ToldMedium) (a b c : ToldStreams) (last : List Lane) (tail : List ℕ) → HasRun IsRun lanes budget old new a b last [] → Took b.source.rest c.source.rest tail → c.sink ≡ b.sink → HasRun IsRun lanes budget old new a c last tail
+with_tail lanes budget old new a b c last tail run took same =
     record {
       records = run.records;
       entries = run.entries;
@@ -144,25 +150,39 @@ with_tail lanes budget blocks a b c last tail run took same =
       valid = run.valid;
       within = run.within;
       puts = subst (λ (k : ToldSink). Put a.sink.written k.written run.output) (sym same) run.puts;
-      legal = run.legal;
+      served = run.served;
       runs = run.runs;
     }
 
+-- where no record was read
+read_stops : {M D : Type 0} {gm : media.Ghosts M} {gd : disks.Ghosts D} (lanes budget left : ℕ) (end : End) (c0 c1 c2 : Core M D gm gd) (place : ℕ) (a b c : ToldStreams) (now : List Lane) → place + left ≡ budget
+    → GoesOn lanes budget left c0 c1 a b now → StopsBy lanes left (stop.Read end) b c c1 now c2 → RunEnds lanes budget (told_medium gm (medium_of c0)) (told_medium gm (medium_of c1)) (exit_at end place) a c
+read_stops lanes budget left Done c0 c1 c2 place a b c now at s stops =
+    let calm : NoneFailed a c = (stops.1 ∙ s.calm.0, ap (λ (k : ToldSink). k.faults) stops.2 ∙ s.calm.1) in
+    (now, with_tail lanes budget _ _ a b c now [] s.run stops.0.0 stops.2, stops.0.1, calm)
+read_stops lanes budget left ReadFault c0 c1 c2 place a b c now at s stops =
+    (now, stops.0.0, with_tail lanes budget _ _ a b c now stops.0.0 s.run stops.0.1 stops.2, stops.0.2, omega (arith, s.counted, stops.0.3), (stops.1 ∙ ap next_fault s.calm.0, ap (λ (k : ToldSink). k.faults) stops.2 ∙ s.calm.1))
+read_stops lanes budget left Broken c0 c1 c2 place a b c now at s stops =
+    let calm : NoneFailed a c = (stops.1 ∙ s.calm.0, ap (λ (k : ToldSink). k.faults) stops.2 ∙ s.calm.1) in
+    (now, stops.0.0, with_tail lanes budget _ _ a b c now stops.0.0 s.run stops.0.1 stops.2, omega (arith, s.counted, at), omega (arith, at, s.counted, stops.0.3), stops.0.2, stops.0.4, calm)
+read_stops lanes budget left TooLong c0 c1 c2 place a b c now at s stops =
+    let calm : NoneFailed a c = (stops.1 ∙ s.calm.0, ap (λ (k : ToldSink). k.faults) stops.2 ∙ s.calm.1) in
+    (now, stops.0.0, stops.0.1, with_tail lanes budget _ _ a b c now (stops.0.0 ++ stops.0.1) s.run stops.0.2 stops.2, stops.0.3, omega (arith, s.counted, stops.0.4), stops.0.5, calm)
+
 -- the place at which a run stops is what is gone of the budget
-pub run_stops : {M D : Type 0} {gm : media.Ghosts M} {gd : disks.Ghosts D} (lanes budget left : ℕ) (s : Stop) (c1 c2 : Core M D gm gd) (blocks place : ℕ) (a b c : ToldStreams) (now : List Lane) → place + left ≡ budget
-    → GoesOn lanes budget left c1 blocks a b now → StopsBy lanes left s b c c1 now c2 → RunEnds lanes budget blocks (exit_of s place) a c
-run_stops lanes budget left (stop.Read Done) c1 c2 blocks place a b c now at s stops =
-    let calm : NoneFailed a c = (stops.1 ∙ s.calm.0, ap (λ (k : ToldSink). k.faults) stops.2 ∙ s.calm.1) in
-    (now, with_tail lanes budget blocks a b c now [] s.run stops.0.0 stops.2, stops.0.1, calm)
-run_stops lanes budget left (stop.Read ReadFault) c1 c2 blocks place a b c now at s stops =
-    (now, stops.0.0, with_tail lanes budget blocks a b c now stops.0.0 s.run stops.0.1 stops.2, stops.0.2, omega (arith, s.counted, stops.0.3), (stops.1 ∙ ap next_fault s.calm.0, ap (λ (k : ToldSink). k.faults) stops.2 ∙ s.calm.1))
-run_stops lanes budget left (stop.Read Broken) c1 c2 blocks place a b c now at s stops =
-    let calm : NoneFailed a c = (stops.1 ∙ s.calm.0, ap (λ (k : ToldSink). k.faults) stops.2 ∙ s.calm.1) in
-    (now, stops.0.0, with_tail lanes budget blocks a b c now stops.0.0 s.run stops.0.1 stops.2, omega (arith, s.counted, at), omega (arith, at, s.counted, stops.0.3), stops.0.2, stops.0.4, calm)
-run_stops lanes budget left (stop.Read TooLong) c1 c2 blocks place a b c now at s stops =
-    let calm : NoneFailed a c = (stops.1 ∙ s.calm.0, ap (λ (k : ToldSink). k.faults) stops.2 ∙ s.calm.1) in
-    (now, stops.0.0, stops.0.1, with_tail lanes budget blocks a b c now (stops.0.0 ++ stops.0.1) s.run stops.0.2 stops.2, stops.0.3, omega (arith, s.counted, stops.0.4), stops.0.5, calm)
-run_stops lanes budget left stop.Write c1 c2 blocks place a b c now at s stops = run_cut lanes budget left c1 c2 blocks a b c now s stops
+pub run_stops : {M D : Type 0} {gm : media.Ghosts M} {gd : disks.Ghosts D} (lanes budget left : ℕ) (s : Stop) (c0 c1 c2 : Core M D gm gd) (place : ℕ) (a b c : ToldStreams) (now : List Lane) → place + left ≡ budget
+    → GoesOn lanes budget left c0 c1 a b now → StopsBy lanes left s b c c1 now c2 → RunEnds lanes budget (told_medium gm (medium_of c0)) (told_medium gm (medium_of c2)) (exit_of s place) a c
+run_stops {M} {D} {gm} {gd} lanes budget left (stop.Read end) c0 c1 c2 place a b c now at s stops =
+    subst (λ (k : Core M D gm gd). RunEnds lanes budget (told_medium gm (medium_of c0)) (told_medium gm (medium_of k)) (exit_at end place) a c) (sym stops.3)
+    (read_stops lanes budget left end c0 c1 c2 place a b c now at s stops)
+run_stops lanes budget left stop.Write c0 c1 c2 place a b c now at s stops = run_cut lanes budget left c0 c1 c2 a b c now s stops
+
+-- a run that stops is over the medium and the disk that it began with
+pub same_devices : {M D : Type 0} {gm : media.Ghosts M} {gd : disks.Ghosts D} (lanes budget left : ℕ) (s : Stop) (c0 c1 c2 : Core M D gm gd) (a b c : ToldStreams) (now : List Lane)
+    → GoesOn lanes budget left c0 c1 a b now → StopsBy lanes left s b c c1 now c2 → HasSameDevices c0 c2
+same_devices {M} {D} {gm} {gd} lanes budget left (stop.Read end) c0 c1 c2 a b c now s stops =
+    subst (λ (k : Core M D gm gd). HasSameDevices c0 k) (sym stops.3) (s.extends.medium, s.extends.disk)
+same_devices lanes budget left stop.Write c0 c1 c2 a b c now s stops = (stops.ran.extends.medium ∙ s.extends.medium, stops.ran.extends.disk ∙ s.extends.disk)
 
 -- what the rest of a schedule brings, all of it brings, where it is told
 abbrev pub CarriesTold : ℕ → ℕ → ℕ → Option (List ℕ) → Option (List ℕ) → Type 0
@@ -201,8 +221,11 @@ pub run_causes : {M D : Type 0} {gm : media.Ghosts M} {gd : disks.Ghosts D} (lan
 run_causes lanes (stop.Read end) budget left place ra b c c1 c2 now at carries stops = told_stops lanes end budget left place ra b.source.rest c.source.rest at carries stops.0
 run_causes lanes stop.Write budget left place ra b c c1 c2 now at carries stops = tt
 
+pub same_name : {X : Type 0} (a b : X) → Some a ≡ Some b → a ≡ b
+same_name a b is = cc
+
 -- a run that has begun, among all that stands
-pub ends_stand : (lanes budget : ℕ) (e : Exit) (before after : Told) → RunEnds lanes budget before.medium.blocks e before.streams after.streams → Stands lanes budget e before after
+pub ends_stand : (lanes budget : ℕ) (e : Exit) (before after : Told) → RunEnds lanes budget before.medium after.medium e before.streams after.streams → Stands lanes budget e before after
 ends_stand lanes budget exits.Done before after ends = ends
 ends_stand lanes budget exits.BadWords before after ends = absurd ends
 ends_stand lanes budget exits.ReadFault before after ends = ends
@@ -212,23 +235,23 @@ ends_stand lanes budget exits.NoMemory before after ends = absurd ends
 ends_stand lanes budget exits.TooLong before after ends = ends
 
 -- a run that has begun doesn't end with the exits that come before it
-pub not_words : (lanes budget blocks : ℕ) (e : Exit) (before after : ToldStreams) → RunEnds lanes budget blocks e before after → e ≡ exits.BadWords → ⊥
-not_words lanes budget blocks exits.Done before after ends is = cc
-not_words lanes budget blocks exits.BadWords before after ends is = ends
-not_words lanes budget blocks exits.ReadFault before after ends is = cc
-not_words lanes budget blocks exits.WriteFault before after ends is = cc
-not_words lanes budget blocks (exits.BadSchedule place) before after ends is = cc
-not_words lanes budget blocks exits.NoMemory before after ends is = cc
-not_words lanes budget blocks exits.TooLong before after ends is = cc
+pub not_words : (lanes budget : ℕ) (old new : ToldMedium) (e : Exit) (before after : ToldStreams) → RunEnds lanes budget old new e before after → e ≡ exits.BadWords → ⊥
+not_words lanes budget old new exits.Done before after ends is = cc
+not_words lanes budget old new exits.BadWords before after ends is = ends
+not_words lanes budget old new exits.ReadFault before after ends is = cc
+not_words lanes budget old new exits.WriteFault before after ends is = cc
+not_words lanes budget old new (exits.BadSchedule place) before after ends is = cc
+not_words lanes budget old new exits.NoMemory before after ends is = cc
+not_words lanes budget old new exits.TooLong before after ends is = cc
 
-pub not_memory : (lanes budget blocks : ℕ) (e : Exit) (before after : ToldStreams) → RunEnds lanes budget blocks e before after → e ≡ exits.NoMemory → ⊥
-not_memory lanes budget blocks exits.Done before after ends is = cc
-not_memory lanes budget blocks exits.BadWords before after ends is = cc
-not_memory lanes budget blocks exits.ReadFault before after ends is = cc
-not_memory lanes budget blocks exits.WriteFault before after ends is = cc
-not_memory lanes budget blocks (exits.BadSchedule place) before after ends is = cc
-not_memory lanes budget blocks exits.NoMemory before after ends is = ends
-not_memory lanes budget blocks exits.TooLong before after ends is = cc
+pub not_memory : (lanes budget : ℕ) (old new : ToldMedium) (e : Exit) (before after : ToldStreams) → RunEnds lanes budget old new e before after → e ≡ exits.NoMemory → ⊥
+not_memory lanes budget old new exits.Done before after ends is = cc
+not_memory lanes budget old new exits.BadWords before after ends is = cc
+not_memory lanes budget old new exits.ReadFault before after ends is = cc
+not_memory lanes budget old new exits.WriteFault before after ends is = cc
+not_memory lanes budget old new (exits.BadSchedule place) before after ends is = cc
+not_memory lanes budget old new exits.NoMemory before after ends is = ends
+not_memory lanes budget old new exits.TooLong before after ends is = cc
 
 -- the causes exclude each other
 pub causes_decide : (lanes : ℕ) (e : Exit) (budget : ℕ) (r : Option (List ℕ)) → 0 < lanes → Causes lanes e budget r → Decides lanes e budget r

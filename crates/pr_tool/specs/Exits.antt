@@ -2,24 +2,42 @@
 use Rattle.std.specs.Prelude.{◌≡◌, ℕ, ◌+◌, ◌<◌, ◌≤◌, ◌⊎◌, List, [], ◌++◌, length, replicate, All, Option, Some, None}
 use Rattle.std.specs.List.{flat_map}
 use Rattle.pr_io.specs.Streams.{Took, Put}
-use Rattle.pr_io.specs.Told.{ToldSink, ToldStreams, Told, NoneFailed, SourceFailed, SinkFailed}
+use Rattle.pr_io.specs.Told.{ToldMedium, ToldSink, ToldStreams, Told, told_medium, NoneFailed, SourceFailed, SinkFailed}
 use Rattle.pr_grammar.specs.Schedules.{Record, IsRecord, spelled_record, Partial, Faulty, record_front, IsUnfinished, IsWhole, IsBrokenAt, IsLong}
 use Rattle.pr_model.specs.Keeping.{Nothing}
 use Rattle.pr_model.specs.Worlds.{Blocks, opened}
 use Rattle.pr_model.specs.Entries.{History}
-use Rattle.pr_model.specs.Histories.{IsLegalOver, after}
+use Rattle.pr_model.specs.Histories.{AreBlocksOf, IsLegalOn, after, faults_in}
+use Rattle.pr_model.specs.Fencing.{IsFenced}
 use Rattle.pr_model.specs.Lanes.{Lane, fresh}
 use Rattle.pr_model.specs.Runs.{Deed, deed, IsRun, IsCutRun}
 use Rattle.pr_io.specs.declared.outside.Medium as media
 use Rattle.pr_io.specs.declared.outside.Disk as disks
 use Rattle.pr_core.specs.declared.target.Core.{Core}
-use Rattle.pr_core.specs.View.{StandsFor, Extends}
+use Rattle.pr_core.specs.View.{StandsFor, Extends, medium_of, disk_of, faults_after}
 use Rattle.pr_tool.specs.Reading.{IsAtEnd}
 use Rattle.pr_tool.specs.declared.exit.Exit.{Exit}
 use Rattle.pr_tool.specs.declared.exit.Exit.TheVariants.{Done, BadWords, ReadFault, WriteFault, BadSchedule, NoMemory, TooLong}
 
--- there is one history, legal from the opening, whose run over the records that were read, which lie within the budget, makes of so many fresh lanes the last ones and writes all that was written; what was read ends with a tail behind the records
-pub record HasRun (Run : List Lane → List Record → Deed → List Lane → Type 0) (lanes budget blocks : ℕ) (before after : ToldStreams) (last : List Lane) (tail : List ℕ) : Type 0 where
+-- from the opening on, a removed nexus changes no block by an earlier task, whatever stands on a medium where that isn't told
+abbrev pub IsFencedOn : ToldMedium → History → Type 0
+IsFencedOn told h = (m : Blocks) → m.count ≡ told.blocks → AreBlocksOf told.contents m → IsFenced (opened m Nothing) h
+
+-- the medium ends with what the history from the opening says, block by block, wherever that is known
+abbrev pub HoldsAfter : ToldMedium → ToldMedium → History → Type 0
+HoldsAfter old new h =
+    (m : Blocks) → m.count ≡ old.blocks → AreBlocksOf old.contents m → AreBlocksOf new.contents (after (opened m Nothing) h).medium
+
+-- a history that a target made from its opening on, over a medium that was so and is so now: legal, fenced, and kept by the medium, which has as many blocks as before and failed once for each fault in the history
+pub record IsServedOn (old new : ToldMedium) (h : History) : Type 0 where
+  pub legal : IsLegalOn old.blocks old.contents Nothing h
+  pub fenced : IsFencedOn old h
+  pub holds : HoldsAfter old new h
+  pub blocks : new.blocks ≡ old.blocks
+  pub faults : new.faults ≡ faults_after (faults_in h) old.faults
+
+-- there is one history, served from the opening over the medium, whose run over the records that were read, which lie within the budget, makes of so many fresh lanes the last ones and writes all that was written; what was read ends with a tail behind the records
+pub record HasRun (Run : List Lane → List Record → Deed → List Lane → Type 0) (lanes budget : ℕ) (old new : ToldMedium) (before after : ToldStreams) (last : List Lane) (tail : List ℕ) : Type 0 where
   pub records : List Record
   pub entries : History
   pub output : List ℕ
@@ -29,38 +47,38 @@ pub record HasRun (Run : List Lane → List Record → Deed → List Lane → Ty
   pub valid : All (IsRecord lanes) records
   pub within : length (flat_map spelled_record records) ≤ budget
   pub puts : Put before.sink.written after.sink.written output
-  pub legal : IsLegalOver blocks Nothing entries
+  pub served : IsServedOn old new entries
   pub runs : Run (replicate lanes fresh) records (deed entries output) last
 
 -- how a run of so many lanes that has begun ends at each exit
-abbrev pub RunEnds : ℕ → ℕ → ℕ → Exit → ToldStreams → ToldStreams → Type 0
-RunEnds lanes budget blocks Done before after =
-    (last : List Lane) × HasRun IsRun lanes budget blocks before after last []
+abbrev pub RunEnds : ℕ → ℕ → ToldMedium → ToldMedium → Exit → ToldStreams → ToldStreams → Type 0
+RunEnds lanes budget old new Done before after =
+    (last : List Lane) × HasRun IsRun lanes budget old new before after last []
     × IsAtEnd after.source.rest × NoneFailed before after
-RunEnds lanes budget blocks ReadFault before after =
-    (last : List Lane) × (tail : List ℕ) × (run : HasRun IsRun lanes budget blocks before after last tail)
+RunEnds lanes budget old new ReadFault before after =
+    (last : List Lane) × (tail : List ℕ) × (run : HasRun IsRun lanes budget old new before after last tail)
     × IsUnfinished (record_front lanes tail) × (length (flat_map spelled_record run.records) + length tail ≤ budget)
     × SourceFailed before after
-RunEnds lanes budget blocks WriteFault before after =
-    (last : List Lane) × HasRun IsCutRun lanes budget blocks before after last [] × SinkFailed before after
-RunEnds lanes budget blocks (BadSchedule place) before after =
-    (last : List Lane) × (tail : List ℕ) × (run : HasRun IsRun lanes budget blocks before after last tail)
+RunEnds lanes budget old new WriteFault before after =
+    (last : List Lane) × HasRun IsCutRun lanes budget old new before after last [] × SinkFailed before after
+RunEnds lanes budget old new (BadSchedule place) before after =
+    (last : List Lane) × (tail : List ℕ) × (run : HasRun IsRun lanes budget old new before after last tail)
     × (place ≡ length (flat_map spelled_record run.records)) × (place + length tail ≤ budget)
     × IsUnfinished (record_front lanes tail)
     × ((record_front lanes tail ≡ Faulty) ⊎ ((0 < length tail) × IsAtEnd after.source.rest))
     × NoneFailed before after
-RunEnds lanes budget blocks TooLong before after =
-    (last : List Lane) × (tail : List ℕ) × (more : List ℕ) × (run : HasRun IsRun lanes budget blocks before after last (tail ++ more))
+RunEnds lanes budget old new TooLong before after =
+    (last : List Lane) × (tail : List ℕ) × (more : List ℕ) × (run : HasRun IsRun lanes budget old new before after last (tail ++ more))
     × (record_front lanes tail ≡ Partial) × (length (flat_map spelled_record run.records) + length tail ≡ budget)
     × (length more ≡ 1) × NoneFailed before after
-RunEnds lanes budget blocks BadWords before after = ⊥
-RunEnds lanes budget blocks NoMemory before after = ⊥
+RunEnds lanes budget old new BadWords before after = ⊥
+RunEnds lanes budget old new NoMemory before after = ⊥
 
 -- how all stands at each exit; nothing was touched where no run began
 abbrev pub Stands : ℕ → ℕ → Exit → Told → Told → Type 0
 Stands lanes budget BadWords before after = after ≡ before
 Stands lanes budget NoMemory before after = after ≡ before
-Stands lanes budget exit before after = RunEnds lanes budget before.medium.blocks exit before.streams after.streams
+Stands lanes budget exit before after = RunEnds lanes budget before.medium after.medium exit before.streams after.streams
 
 -- the cause of an exit that the schedule alone brings, where the source tells it; no more than so many bytes are looked at
 abbrev pub Causes : ℕ → Exit → ℕ → Option (List ℕ) → Type 0
@@ -93,9 +111,19 @@ pub record Ran {M D X : Type 0} {gm : media.Ghosts M} {gd : disks.Ghosts D} (Act
   pub extends : Extends old new entries
   pub puts : Put before.written after.written output
 
--- a run that goes on: its core and its lanes, and how many bytes of the budget its records have left
-pub record GoesOn {M D : Type 0} {gm : media.Ghosts M} {gd : disks.Ghosts D} (lanes budget left : ℕ) (core : Core M D gm gd) (blocks : ℕ) (before here : ToldStreams) (now : List Lane) : Type 0 where
-  pub run : HasRun IsRun lanes budget blocks before here now []
-  pub stands : (medium : Blocks) → medium.count ≡ blocks → StandsFor core (after (opened medium Nothing) run.entries)
+-- a core stands for the opening, with nothing kept, over whatever its medium may hold
+abbrev pub IsOpened : {M D : Type 0} {gm : media.Ghosts M} {gd : disks.Ghosts D} → Core M D gm gd → Type 0
+IsOpened {M} {D} {gm} {gd} c =
+    (m : Blocks) → m.count ≡ gm.count (medium_of c) → AreBlocksOf (gm.contents (medium_of c)) m → StandsFor c (opened m Nothing)
+
+-- a core over the medium and the disk that another was over, of which the disk is as it was
+abbrev pub HasSameDevices : {M D : Type 0} {gm : media.Ghosts M} {gd : disks.Ghosts D} → Core M D gm gd → Core M D gm gd → Type 0
+HasSameDevices {M} {D} {gm} {gd} old new = (gm.reference (medium_of new) ≡ gm.reference (medium_of old)) × (disk_of new ≡ disk_of old)
+
+-- a run that goes on: its core, from the opened one on, and its lanes, and how many bytes of the budget its records have left
+pub record GoesOn {M D : Type 0} {gm : media.Ghosts M} {gd : disks.Ghosts D} (lanes budget left : ℕ) (start core : Core M D gm gd) (before here : ToldStreams) (now : List Lane) : Type 0 where
+  pub run : HasRun IsRun lanes budget (told_medium gm (medium_of start)) (told_medium gm (medium_of core)) before here now []
+  pub opens : IsOpened start
+  pub extends : Extends start core run.entries
   pub counted : length (flat_map spelled_record run.records) + left ≡ budget
   pub calm : NoneFailed before here

@@ -53,7 +53,7 @@ pub record WasCut {M D : Type 0} {gm : media.Ghosts M} {gd : disks.Ghosts D} (la
 abbrev pub StopsBy : {M D : Type 0} {gm : media.Ghosts M} {gd : disks.Ghosts D} → ℕ → ℕ → Stop → ToldStreams → ToldStreams → Core M D gm gd → List Lane → Core M D gm gd → Type 0
 StopsBy lanes left (stop.Read end) before after old earlier new =
     Stops lanes left end before.source.rest after.source.rest
-    × (after.source.faults ≡ faults_at end before.source.faults) × (after.sink ≡ before.sink)
+    × (after.source.faults ≡ faults_at end before.source.faults) × (after.sink ≡ before.sink) × (new ≡ old)
 StopsBy lanes left stop.Write before after old earlier new = WasCut lanes left before after old earlier new
 
 -- what one record did, of so many bytes that may still be looked at, or why the run stops

@@ -1,18 +1,16 @@
 ghost use Rattle.std.specs.Prelude.{◌≡◌, ◌+◌, ◌-◌, ◌≤◌, ◌<◌, ◌^◌, ◌↔◌, ◌⊎◌, ℕ, List, replicate, length, vec_len, IfOk, OnOk, OnErr};
 ghost use Rattle.pr_io.specs.Causes.{HasCause};
-ghost use Rattle.pr_io.specs.Told.{told_sink, told_streams, told};
+ghost use Rattle.pr_io.specs.Told.{told_medium, told_sink, told_streams, told};
 ghost use Rattle.pr_grammar.specs.Schedules as schedules;
-ghost use Rattle.pr_model.specs.Keeping.{Nothing};
-ghost use Rattle.pr_model.specs.Worlds.{Blocks, opened};
 ghost use Rattle.pr_model.specs.Lanes.{fresh};
 ghost use Rattle.pr_model.specs.Lanes as model;
 ghost use Rattle.pr_model.specs.Runs.{RunsRecord, CutsRecord, ActsOn};
-ghost use Rattle.pr_core.specs.View.{StandsFor, blocks_of, KeepsOthers};
+ghost use Rattle.pr_core.specs.View.{medium_of, KeepsOthers};
 ghost use Rattle.pr_tool.specs.Reading.{record_of, IsHeld, Reads};
 ghost use Rattle.pr_tool.specs.Lanes.{lane_of, lanes_of};
 ghost use Rattle.pr_session.specs.Driving.{Agrees, AllAgree};
 ghost use Rattle.pr_tool.specs.Counting.{faults_read};
-ghost use Rattle.pr_tool.specs.Exits.{Ran, RunEnds, Stands, Causes, Decides};
+ghost use Rattle.pr_tool.specs.Exits.{IsOpened, HasSameDevices, Ran, RunEnds, Stands, Causes, Decides};
 ghost use Rattle.pr_tool.specs.Stops.{exit_of, RunsOne};
 ghost use Rattle.pr_tool.specs.Asking.{AsksReplay};
 
@@ -207,14 +205,15 @@ fn run<S: Source, K: Sink, M: Medium, D: Disk>(
     body: &mut Vec<u8>,
     budget: u64,
 ) -> Exit
-    requires opening { (m : Blocks) → m.count ≡ blocks_of core.old →
-        StandsFor core.old (opened m Nothing) }
+    requires opened { IsOpened core.old }
     requires fresh { lanes_of lanes.old ≡ replicate (length lanes.old) fresh }
     requires most { length lanes.old ≤ 64 }
     requires room { vec_len body.old ≡ 65535 }
-    ensures ends { RunEnds (length lanes.old) budget (blocks_of core.old) result
-        (told_streams S.Source K.Sink source.old sink.old)
+    ensures ends { RunEnds (length lanes.old) budget
+        (told_medium M.Medium (medium_of core.old)) (told_medium M.Medium (medium_of core.new))
+        result (told_streams S.Source K.Sink source.old sink.old)
         (told_streams S.Source K.Sink source.new sink.new) }
+    ensures devices { HasSameDevices core.old core.new }
     ensures causes { Causes (length lanes.old) result budget (S.rest source.old) }
 {
     let mut left = budget;
@@ -255,8 +254,9 @@ pub fn replay_within<S: Source, K: Sink, M: Medium, D: Disk>(
 ) -> Exit
     requires { (1 ≤ lanes) × (lanes ≤ 64) }
 
-    // The headline, for the commands that there are: one legal history whose run over the records
-    // read gives the bytes written. Which stream failed, and that no fault is passed over.
+    // The headline, for the commands that there are: one history whose run over the records read
+    // gives the bytes written, legal over the medium handed in and fenced; the medium ends with what
+    // it says. Which stream failed, and that no fault of stream or medium is passed over.
     ensures stands { Stands lanes budget result
         (told S.Source K.Sink M.Medium D.Disk source.old sink.old medium.old disk.old)
         (told S.Source K.Sink M.Medium D.Disk source.new sink.new medium.new disk.new) }
@@ -278,15 +278,17 @@ pub fn replay_within<S: Source, K: Sink, M: Medium, D: Disk>(
         return Exit::NoMemory;
     };
     let mut core = Core::open_in(room, medium, disk);
-    run(source, sink, &mut core, &mut sessions, &mut body, budget)
+    let exit = run(source, sink, &mut core, &mut sessions, &mut body, budget);
+    let (_medium, _) = core.into_parts();
+    exit
 }
 
 /// Runs a schedule over a target, on 1 to 64 lanes: the words are `replay` and their number.
 ///
-/// The target begins as after a power-up that restored nothing; medium and disk aren't touched
-/// yet. The schedule's records act in order, each on the lane of its number, under which the target
-/// knows that lane, and each reply is written at once. All memory is taken before the first record:
-/// some 1 MiB for each lane.
+/// The target begins as after a power-up that restored nothing. READ and WRITE move blocks of the
+/// medium, one with each step; the disk isn't touched yet. The schedule's records act in order, each
+/// on the lane of its number, under which the target knows that lane, and each reply is written at
+/// once. All memory is taken before the first record: some 1 MiB for each lane.
 ///
 /// # Errors
 ///
