@@ -5,7 +5,7 @@ ghost use Rattle.pr_grammar.specs.Schedules as schedules;
 ghost use Rattle.pr_model.specs.Lanes.{fresh};
 ghost use Rattle.pr_model.specs.Lanes as model;
 ghost use Rattle.pr_model.specs.Runs.{RunsRecord, CutsRecord, ActsOn};
-ghost use Rattle.pr_core.specs.View.{medium_of, KeepsOthers};
+ghost use Rattle.pr_core.specs.View.{medium_of, disk_of, KeepsOthers};
 ghost use Rattle.pr_tool.specs.Reading.{record_of, IsHeld, Reads};
 ghost use Rattle.pr_tool.specs.Lanes.{lane_of, lanes_of};
 ghost use Rattle.pr_session.specs.Driving.{Agrees, AllAgree};
@@ -237,6 +237,50 @@ fn fresh_lanes(alloc: Global, count: usize) -> Result<Vec<Lane>, AllocError>
     Ok(lanes)
 }
 
+/// The disk and the medium of a target to which no record is to come any more.
+fn parts_of<M: Medium, D: Disk>(core: Core<M, D>) -> (D, M)
+    ensures { (result.0 ≡ disk_of core) × (result.1 ≡ medium_of core) }
+{
+    let (medium, disk) = core.into_parts();
+    (disk, medium)
+}
+
+/// `replay_within` with a disk that is handed back.
+fn replay_over<S: Source, K: Sink, M: Medium, D: Disk>(
+    alloc: Global,
+    lanes: usize,
+    budget: u64,
+    source: &mut S,
+    sink: &mut K,
+    medium: &mut M,
+    disk: D,
+) -> (Exit, D)
+    requires { (1 ≤ lanes) × (lanes ≤ 64) }
+    ensures stands { Stands lanes budget result.0
+        (told S.Source K.Sink M.Medium D.Disk source.old sink.old medium.old disk)
+        (told S.Source K.Sink M.Medium D.Disk source.new sink.new medium.new result.1) }
+    ensures causes { Causes lanes result.0 budget (S.rest source.old) }
+    ensures decides { Decides lanes result.0 budget (S.rest source.old) }
+    ensures begun { result.0 ≡ Exit.BadWords → ⊥ }
+    ensures untouched { result.0 ≡ Exit.NoMemory → (source.new ≡ source.old)
+        × (sink.new ≡ sink.old) × (medium.new ≡ medium.old) }
+    ensures disk { result.1 ≡ disk }
+{
+    let Ok(mut sessions) = fresh_lanes(alloc, lanes) else {
+        return (Exit::NoMemory, disk);
+    };
+    let Ok(mut body) = vec![in alloc; 0u8; ARRIVAL] else {
+        return (Exit::NoMemory, disk);
+    };
+    let Ok(room) = Room::new(alloc) else {
+        return (Exit::NoMemory, disk);
+    };
+    let mut core = Core::open_in(room, medium, disk);
+    let exit = run(source, sink, &mut core, &mut sessions, &mut body, budget);
+    let (disk, _medium) = parts_of(core);
+    (exit, disk)
+}
+
 /// Runs a schedule of so many lanes over a target, of whose bytes no more than the budget are
 /// looked at: `replay_main` without its words.
 ///
@@ -265,21 +309,11 @@ pub fn replay_within<S: Source, K: Sink, M: Medium, D: Disk>(
     ensures causes { Causes lanes result budget (S.rest source.old) }
     ensures decides { Decides lanes result budget (S.rest source.old) }
     ensures begun { result ≡ Exit.BadWords → ⊥ }
+    ensures disk { disk.new ≡ disk.old }
     ensures untouched { result ≡ Exit.NoMemory → (source.new ≡ source.old) × (sink.new ≡ sink.old)
         × (medium.new ≡ medium.old) × (disk.new ≡ disk.old) }
 {
-    let Ok(mut sessions) = fresh_lanes(alloc, lanes) else {
-        return Exit::NoMemory;
-    };
-    let Ok(mut body) = vec![in alloc; 0u8; ARRIVAL] else {
-        return Exit::NoMemory;
-    };
-    let Ok(room) = Room::new(alloc) else {
-        return Exit::NoMemory;
-    };
-    let mut core = Core::open_in(room, medium, disk);
-    let exit = run(source, sink, &mut core, &mut sessions, &mut body, budget);
-    let (_medium, _) = core.into_parts();
+    let (exit, _disk) = replay_over(alloc, lanes, budget, source, sink, medium, disk);
     exit
 }
 
@@ -313,6 +347,7 @@ pub fn replay_main<S: Source, K: Sink, M: Medium, D: Disk>(
         Causes lanes result (2 ^ 32) (S.rest source.old) }
     ensures decides { (lanes : ℕ) → AsksReplay words.now lanes →
         Decides lanes result (2 ^ 32) (S.rest source.old) }
+    ensures disk { disk.new ≡ disk.old }
     ensures untouched { (result ≡ Exit.BadWords) ⊎ (result ≡ Exit.NoMemory) →
         (source.new ≡ source.old) × (sink.new ≡ sink.old)
         × (medium.new ≡ medium.old) × (disk.new ≡ disk.old) }
