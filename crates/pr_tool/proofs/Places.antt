@@ -36,16 +36,15 @@ some_is x y is = cc
 
 keeps_agrees : {M D : Type 0} {gm : media.Ghosts M} {gd : disks.Ghosts D} (who other : ℕ) (old new : Core M D gm gd) (p : Phase) → KeepsOthers who old new → (other ≡ who → ⊥) → Agrees p other old → Agrees p other new
 keeps_agrees who other old new Fresh keeps apart agrees = tt
-keeps_agrees who other old new (In n) keeps apart agrees = keeps other n apart agrees
-keeps_agrees who other old new (Busy n j) keeps apart agrees = keeps other n apart agrees
+keeps_agrees who other old new (In n) keeps apart agrees = let kept = keeps other n apart agrees.0 in (kept.0, kept.1 ∙ agrees.1)
+keeps_agrees who other old new (Busy n j) keeps apart agrees = let kept = keeps other n apart agrees.0 in (kept.0, kept.1 ∙ agrees.1)
 keeps_agrees who other old new Dead keeps apart agrees = tt
 
--- a core that kept the owners of the other nexuses twice kept them
+-- a core that kept what the other nexuses have twice kept it
 pub keeps_more : {M D : Type 0} {gm : media.Ghosts M} {gd : disks.Ghosts D} (who : ℕ) (a b c : Core M D gm gd) → KeepsOthers who a b → KeepsOthers who b c → KeepsOthers who a c
-keeps_more who a b c first second other n apart is = second other n apart (first other n apart is)
-
-pub keeps_owner : {M D : Type 0} {gm : media.Ghosts M} {gd : disks.Ghosts D} (who : ℕ) (old new : Core M D gm gd) → owner_of new ≡ owner_of old → KeepsOthers who old new
-keeps_owner who old new same other n apart is = ap (λ (owner : Nexus → Option ℕ). owner n) same ∙ is
+keeps_more who a b c first second other n apart is =
+    let one = first other n apart is in
+    let two = second other n apart one.0 in (two.0, two.1 ∙ one.1)
 
 -- where one lane moved with the core, all agree as before
 pub all_agree : {M D : Type 0} {gm : media.Ghosts M} {gd : disks.Ghosts D} (lanes : List Lane) (i : ℕ) (m : Lane) (old new : Core M D gm gd) → i < length lanes → AllAgree lanes old → KeepsOthers i old new → Agrees m.phase i new → AllAgree (slice_set lanes i m) new

@@ -15,7 +15,7 @@ loop-at-init g c =
     record {
       within = omega (arith, c.feed-at.ensures.count, fed_within l.phase l.bytes bytes);
       ran = room_start c.args.who c.args.core.now _ l (lane_of c.feed-at.new.self) bytes c.feed-at.result c.feed-at.ensures.lane;
-      others = λ other n apart is. is;
+      others = λ other n apart is. (is, refl);
       agrees = agrees_still c.args.who c.args.core.now l (lane_of c.feed-at.new.self) (take c.feed-at.result bytes) c.feed-at.ensures.lane c.requires;
       full = λ less. fed_full l (lane_of c.feed-at.new.self) bytes c.feed-at.result c.feed-at.ensures.count c.feed-at.ensures.lane c.feed-at.ensures.bound less;
       bound = c.feed-at.ensures.bound;
