@@ -151,9 +151,9 @@ fn command_on<M: Medium, D: Disk>(
         (Command lun cdb.now (take out_len (drop COMMAND_HEAD work.old)))
         (out_of result (drop COMMAND_HEAD work.new)) ∷ []) }
     ensures idle { IsIdleIn core.new who nexus }
-        ensures others { KeepsOthers who core.old core.new }
+    ensures others { KeepsOthers who core.old core.new }
     ensures proper { IsProper result }
-        ensures ended { IsEnded result }
+    ensures ended { IsEnded result }
 {
     let (_, data) = work.split_at_mut(COMMAND_HEAD);
     core.command(who, nexus, lun, cdb, data, out_len)
