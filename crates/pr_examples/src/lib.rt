@@ -10,4 +10,6 @@ mod bounds;
 #[cfg(test)]
 mod faults;
 #[cfg(test)]
+mod pieces;
+#[cfg(test)]
 mod streams;

@@ -28,7 +28,7 @@ use crate::work::{ROOM, Work};
 use pr_core::{CommandOut, Core};
 use pr_io::{Disk, Medium};
 use pr_link::{Deframer, Frame, Got, Reply, Request};
-use pr_words::{Nexus, Side};
+use pr_words::{COMMAND_HEAD, HELD, Nexus, Side};
 use std::alloc::{AllocError, Global};
 
 /// The session of one connection: it takes bytes, says what they ask for, is told how that came
@@ -268,6 +268,14 @@ impl Session {
                 Request::Login { .. } => self.refuse(Some(nexus), rejection),
             },
         }
+    }
+
+    /// The data of the command last wanted: its data-out first, and once it was done its data-in; and
+    /// then room, 524,300 bytes in all.
+    pub fn work(&self) -> &[u8]
+        ensures { result.now ≡ slice_range (work_of self.now) COMMAND_HEAD HELD }
+    {
+        self.work.range(COMMAND_HEAD, HELD)
     }
 
     /// Has the act that is wanted done by a target, under a number. A command has its data-out from the

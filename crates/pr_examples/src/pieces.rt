@@ -1,0 +1,75 @@
+//! A frame of the greatest length, which comes in pieces.
+
+ghost use Rattle.std.specs.Prelude.{◌<◌, ◌≤◌};
+
+use crate::streams::{ACCEPTED, LOGIN, POWER_ON, TEST_UNIT_READY, bytes_of, replay};
+use pr_io::{MemSink, MemSource};
+use pr_tool::Exit;
+use std::alloc::{AllocError, Global};
+use std::test::*;
+
+/// A WRITE(10) of 1,024 blocks, whose tag is 3, up to its data-out of 524,288 bytes.
+const WRITE: &str = "0008001C 02000000 00000003 0A000000 2A000000000000040000 000000000000";
+
+/// The reply that its operation code isn't served: 5/20/00.
+const UNSERVED: &str = "0000001E 82000000 00000003 02120000 700005000000000A00000000200000000000";
+
+/// Adds the bytes as arrivals of lane 0, each of so many but the last.
+fn add_arrivals(schedule: &mut Vec<u8>, bytes: &[u8], size: u16) -> Result<(), AllocError>
+    requires { 0 < size }
+{
+    for piece in bytes.chunks(size as usize) {
+        let [high, low] = (piece.len() as u16).to_be_bytes();
+        schedule.extend_from_slice(&[0, 0, high, low])?;
+        schedule.extend_from_slice(piece)?;
+    }
+    Ok(())
+}
+
+/// What is written where a nexus logs in, asks whether the unit is ready, and then sends the WRITE
+/// in pieces of so many bytes, but for its last ones, and takes a step.
+fn written(alloc: Global, size: u16, lacking: usize) -> Result<Vec<u8>, Fail>
+    requires { 0 < size }
+{
+    let mut frame = bytes_of(alloc, &[WRITE])?;
+    frame.resize(524_320usize.saturating_sub(lacking), 0xA5)?;
+    let mut schedule = bytes_of(
+        alloc,
+        &[
+            "00000018",
+            LOGIN,
+            "00010000 00000020",
+            TEST_UNIT_READY,
+            "00010000",
+        ],
+    )?;
+    add_arrivals(&mut schedule, &frame, size)?;
+    schedule.extend_from_slice(&[0, 1, 0, 0])?;
+    let mut sink = MemSink::new(alloc, Vec::new(alloc));
+    let exit = replay(
+        alloc,
+        &mut MemSource::new(schedule, Vec::new(alloc)),
+        &mut sink,
+    )?;
+    if exit != Exit::Done {
+        return Err(Fail::new("the run ended otherwise"));
+    }
+    Ok(sink.bytes().to_vec(alloc)?)
+}
+
+#[test]
+fn the_longest_frame_is_one_command_however_it_is_cut(rt: HostRuntime) -> Result<(), Fail> {
+    let alloc = rt.alloc();
+    let whole = bytes_of(
+        alloc,
+        &[
+            "00000010", ACCEPTED, "00000022", POWER_ON, "00000022", UNSERVED,
+        ],
+    )?;
+    let short = bytes_of(alloc, &["00000010", ACCEPTED, "00000022", POWER_ON])?;
+    for size in [1u16, 7, 65_535] {
+        assert!(rt; written(alloc, size, 0)? == whole, "in pieces of {size}");
+        assert!(rt; written(alloc, size, 1)? == short, "in pieces of {size}");
+    }
+    Ok(())
+}
