@@ -16,7 +16,7 @@ use Rattle.pr_core.specs.declared.admitted.Admitted.{Admitted}
 use Rattle.pr_core.specs.declared.admitted.Admitted.TheVariants as admitted
 use Rattle.pr_core.specs.Feeding.{announced}
 use Rattle.pr_core.specs.Passing.{HasData, IsBegun}
-use Rattle.pr_core.specs.Outs.{Begins, IsEnded, IsFed}
+use Rattle.pr_core.specs.Outs.{Begins, IsEnded, IsFed, LeavesData}
 use Rattle.pr_core.specs.Stepping.{with_task}
 use Rattle.pr_core.proofs.StateLaws.{elsewhere, at_same}
 
@@ -84,6 +84,10 @@ progress_is t way count e f g =
 pub ended_fed : (r : CommandOut) (size : ℕ) → IsEnded r → IsFed r size
 ended_fed (outs.Ended s sense len) size ended = tt
 ended_fed (outs.Started way count) size ended = absurd ended
+
+pub same_kept : (r : CommandOut) (old : List ℕ) → LeavesData r old old
+same_kept (outs.Ended s sense len) old = tt
+same_kept (outs.Started way count) old = refl
 
 pub ended_begun : (r : CommandOut) (a : Admitted) → IsEnded r → IsBegun a r
 ended_begun (outs.Ended s sense len) a ended = tt

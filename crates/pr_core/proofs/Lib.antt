@@ -10,4 +10,3 @@ pub mod Going
 pub mod Tasked
 pub mod Owned
 pub mod StepLaws
-mod Serving

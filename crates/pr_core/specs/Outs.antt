@@ -40,6 +40,11 @@ abbrev pub IsFed : CommandOut → ℕ → Type 0
 IsFed (outs.Ended s sense len) size = Unit {0}
 IsFed (outs.Started way count) size = size ≡ announced way count
 
+-- a READ or WRITE that has begun leaves the buffer as it was
+abbrev pub LeavesData : CommandOut → List ℕ → List ℕ → Type 0
+LeavesData (outs.Ended s sense len) old new = Unit {0}
+LeavesData (outs.Started way count) old new = new ≡ old
+
 -- no task has begun
 abbrev pub IsEnded : CommandOut → Type 0
 IsEnded (outs.Ended s sense len) = Unit {0}

@@ -9,7 +9,7 @@ use Rattle.pr_io.specs.Contents.{ReadsBlock, WritesBlock}
 use Rattle.pr_io.specs.declared.outside.Medium as media
 use Rattle.pr_tasks.specs.declared.step_out.StepOut.{StepOut}
 use Rattle.pr_tasks.specs.declared.step_out.StepOut.TheVariants.{Wrote, Read, Done, Aborted, Fault}
-use Rattle.pr_tasks.specs.Steps.{Steps, answered}
+use Rattle.pr_tasks.specs.Steps.{Steps, LeavesBlock, answered}
 use Rattle.pr_core.specs.declared.seats.Seat.{Seat}
 
 -- there is a task, whose blocks all lie within so many
@@ -42,6 +42,7 @@ pub record Did (t : Task) (out : StepOut) (before after : Option (ℕ → List �
   pub idle : (t.aborted ≡ true) ⊎ (t.done ≡ t.count) → after ≡ before
   pub given_long : length given ≡ block_length
   pub left_long : length left ≡ block_length
+  pub kept : LeavesBlock out given left
 
 -- the medium has as many blocks as before, is the same one, and has failed as often, but once more in a step that failed
 pub record Keeps {M : Type 0} (of : media.Ghosts M) (before after : M) (out : StepOut) : Type 0 where

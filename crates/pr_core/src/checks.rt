@@ -5,7 +5,7 @@ ghost use Rattle.pr_words.specs.Services.{out_service_code};
 ghost use Rattle.pr_grammar.specs.Operations.{operation_at, unconditional_in};
 ghost use Rattle.pr_grammar.specs.Cdbs.{operation_code};
 ghost use Rattle.pr_grammar.specs.Pages.{report_luns};
-ghost use Rattle.pr_model.specs.Commands.{serves, has_bad_list, inquiry_data};
+ghost use Rattle.pr_model.specs.Commands.{has_bad_list, inquiry_data};
 ghost use Rattle.pr_model.specs.Commands as model;
 ghost use Rattle.pr_core.specs.Passing.{PassesOperation, PassesForm, PassesCommand, PassesCdb, PassesTransfer, PassesNoData, PassesLength};
 
@@ -23,29 +23,11 @@ pub fn is_elsewhere(lun: u16, operation: Option<OperationCode>) -> bool
     lun != 0 && !is_unconditional(operation)
 }
 
-/// The check of the operation code: whether its command is served yet.
+/// The check of the operation code: whether the target has its command.
 pub fn check_operation(operation: Option<OperationCode>) -> Result<OperationCode, Code>
-    ensures passes { PassesOperation operation result }
-    ensures served { IfOk result (λ o. serves (Some o) ≡ true) }
+    ensures { PassesOperation operation result }
 {
-    let Some(operation) = operation else {
-        return Err(Code::INVALID_COMMAND_OPERATION_CODE);
-    };
-    match operation {
-        OperationCode::TestUnitReady
-        | OperationCode::RequestSense
-        | OperationCode::ReserveIn
-        | OperationCode::ReserveOut => Ok(operation),
-        OperationCode::Inquiry
-        | OperationCode::ReadCapacity10
-        | OperationCode::Read10
-        | OperationCode::Write10
-        | OperationCode::SynchronizeCache10
-        | OperationCode::Read16
-        | OperationCode::Write16
-        | OperationCode::ReadCapacity16
-        | OperationCode::ReportLuns => Err(Code::INVALID_COMMAND_OPERATION_CODE),
-    }
+    operation.ok_or(Code::INVALID_COMMAND_OPERATION_CODE)
 }
 
 /// The checks of a CDB with its data-out, over a medium of so many blocks.

@@ -5,12 +5,12 @@ ghost use Rattle.pr_words.specs.Services.{in_service_code};
 ghost use Rattle.pr_grammar.specs.Operations.{operation_at, class_of};
 ghost use Rattle.pr_model.specs.Conflicts.{is_forbidden, role_of};
 ghost use Rattle.pr_model.specs.Tasks.{new_task};
-ghost use Rattle.pr_model.specs.Commands.{serves, reserve_in_data};
+ghost use Rattle.pr_model.specs.Commands.{reserve_in_data};
 ghost use Rattle.pr_model.specs.Entries.{entry, Command as Commands};
 ghost use Rattle.pr_table.specs.Tables.{standing_of};
 ghost use Rattle.pr_table.specs.Told.{requested};
 ghost use Rattle.pr_core.specs.Seats.{seat_of};
-ghost use Rattle.pr_core.specs.Outs.{out_of, IsProper, IsEnded, IsFed, Begins};
+ghost use Rattle.pr_core.specs.Outs.{out_of, IsProper, IsEnded, IsFed, Begins, LeavesData};
 ghost use Rattle.pr_core.specs.Fitting.{Fits};
 ghost use Rattle.pr_core.specs.Passing.{FitsIn, IsBegun};
 ghost use Rattle.pr_core.specs.Admits.{PassesAttention, PassesUnit, Serves, Senses, Reserves};
@@ -54,7 +54,7 @@ impl State {
         ensures others { TasksStay nexus self.old self.new }
         ensures blocks { self.new.blocks ≡ self.old.blocks }
         ensures proper { IsProper result }
-        ensures ended { IsEnded result }
+        ensures kept { LeavesData result buf.old buf.new }
     {
         let operation = match self.check_unit(nexus, lun, cdb[0]) {
             Ok(operation) => operation,
@@ -74,7 +74,6 @@ impl State {
     fn check_unit(&mut self, nexus: Nexus, lun: u16, op: u8) -> Result<OperationCode, Code>
         requires known { is_some (seat_of self.old.seats nexus) ≡ true }
         ensures passes { PassesUnit self.old self.new nexus lun op result }
-        ensures served { IfOk result (λ o. serves (Some o) ≡ true) }
         ensures owner { owner_at self.new ≡ owner_at self.old }
         ensures progress { progress_at self.new ≡ progress_at self.old }
         ensures known { is_some (seat_of self.new.seats nexus) ≡ true }
@@ -148,6 +147,7 @@ impl State {
         ensures others { TasksStay nexus self.old self.new }
         ensures blocks { self.new.blocks ≡ self.old.blocks }
         ensures proper { IsProper result }
+        ensures kept { LeavesData result buf.old buf.new }
     {
         match admitted {
             Admitted::TestUnitReady | Admitted::SynchronizeCache => CommandOut::good(0),

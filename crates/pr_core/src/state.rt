@@ -6,6 +6,7 @@ ghost use Rattle.pr_model.specs.Worlds.{Blocks, opened};
 ghost use Rattle.pr_model.specs.Keeping.{Nothing};
 ghost use Rattle.pr_model.specs.Entries.{entry, Login, Logout, Step, Login_code, Left};
 ghost use Rattle.pr_table.specs.Tables.{standing_of, limit_of};
+ghost use Rattle.pr_tasks.specs.Steps.{LeavesBlock};
 ghost use Rattle.pr_core.specs.Seats.{seat_of};
 ghost use Rattle.pr_core.specs.Fitting.{AllFit, AreOwned};
 ghost use Rattle.pr_core.specs.Stepping.{Keeps};
@@ -102,6 +103,7 @@ impl State {
         ensures owner { owner_at self.new ≡ owner_at self.old }
         ensures progress { Progresses result (progress_at self.old nexus)
             (progress_at self.new nexus) }
+        ensures kept { LeavesBlock result block.old block.new }
         ensures others { (who : ℕ) → owner_at self.old nexus ≡ Some who
             → KeepsOthersAt who self.old self.new }
         ensures medium { Keeps M.Medium medium.old medium.new result }

@@ -3,7 +3,8 @@ ghost use Rattle.pr_model.specs.Worlds.{Blocks, opened};
 ghost use Rattle.pr_model.specs.Keeping.{Nothing};
 ghost use Rattle.pr_model.specs.Entries.{entry, Login, Command, Step, Logout, Login_code, Left};
 ghost use Rattle.pr_model.specs.Histories.{AreBlocksOf};
-ghost use Rattle.pr_core.specs.Outs.{out_of, step_out, IsCarried, IsFed, IsProper, Begins, Progresses, IsEnded};
+ghost use Rattle.pr_tasks.specs.Steps.{LeavesBlock};
+ghost use Rattle.pr_core.specs.Outs.{out_of, step_out, IsCarried, IsFed, IsProper, Begins, Progresses, LeavesData};
 
 use crate::answers::{CommandOut, OpenFault};
 use crate::seats::Seats;
@@ -185,7 +186,7 @@ impl<M: Medium, D: Disk> Core<M, D> {
         ensures fed { IsFed result out_len }
         ensures others { KeepsOthers who self.old self.new }
         ensures proper { IsProper result }
-        ensures ended { IsEnded result }
+        ensures kept { LeavesData result buf.old buf.new }
     {
         self.state.command(nexus, lun, cdb, buf, out_len)
     }
@@ -201,6 +202,7 @@ impl<M: Medium, D: Disk> Core<M, D> {
         ensures owner { owner_of self.new ≡ owner_of self.old }
         ensures progress { Progresses result (progress_of self.old nexus)
             (progress_of self.new nexus) }
+        ensures kept { LeavesBlock result block.old block.new }
         ensures others { KeepsOthers who self.old self.new }
     {
         self.state.step(nexus, &mut self.medium, block)

@@ -11,8 +11,6 @@ use Rattle.pr_grammar.specs.Standings.{Standing}
 use Rattle.pr_grammar.specs.Senses.{fixed_sense, descriptor_sense}
 use Rattle.pr_grammar.specs.declared.cdb.Command.{Command}
 use Rattle.pr_grammar.specs.declared.cdb.Command.TheVariants.{TestUnitReady, RequestSense, Inquiry, ReadCapacity10, ReadCapacity16, ReportLuns, Read, Write, SynchronizeCache, ReserveIn, ReserveOut}
-use Rattle.pr_grammar.specs.declared.operation.OperationCode.{OperationCode}
-use Rattle.pr_grammar.specs.declared.operation.OperationCode.TheVariants as operations
 use Rattle.pr_grammar.specs.Operations.{operation_at, length_of, class_of, is_unconditional}
 use Rattle.pr_grammar.specs.Cdbs.{operation_code, is_naca, command_of}
 use Rattle.pr_grammar.specs.declared.param.OutList.{OutList}
@@ -87,24 +85,13 @@ attention_check w n op [] = None
 attention_check w n op (c ∷ cs) =
     if is_unconditional op then None else Some (answer (record w { attentions = set_at w.attentions n cs }) (checking c))
 
--- the operation codes that are served yet
-abbrev pub serves : Option OperationCode → Bool
-serves (Some operations.TestUnitReady) = true
-serves (Some operations.RequestSense) = true
-serves (Some operations.ReserveIn) = true
-serves (Some operations.ReserveOut) = true
-serves _ = false
-
-abbrev pub is_served : ℕ → Bool
-is_served op = serves (operation_at op)
-
 -- by the logical unit, and by what waits to be reported
 abbrev pub unit_checks : World → Nexus → ℕ → ℕ → List (Option Answer)
 unit_checks w n lun op = refused_where (is_elsewhere lun op) w unsupported_unit ∷ attention_check w n op (w.attentions n) ∷ []
 
--- by the operation code
+-- by the operation code, of which there are thirteen
 abbrev pub operation_checks : World → ℕ → List (Option Answer)
-operation_checks w op = refused_where (not (is_served op)) w invalid_operation ∷ []
+operation_checks w op = refused_where (not (is_some (operation_at op))) w invalid_operation ∷ []
 
 -- by the reservation, which may forbid what the operation code does (SPC-4 and SBC-3, the tables of commands that conflict)
 abbrev pub conflict_where : Bool → World → Option Answer

@@ -9,10 +9,11 @@ use Rattle.pr_grammar.specs.Frames.{frame, is_kind}
 use Rattle.pr_grammar.specs.Bodies.{login_version, login_nexus, login_reply, command_cdb, command_data}
 use Rattle.pr_model.specs.Entries as entries
 use Rattle.pr_model.specs.Entries.{Out, Login_code, Ended, Started, Wrote, Read, Done, Aborted, Fault, Left, Restored}
-use Rattle.pr_model.specs.Lanes.{Lane, Phase, Turn, Turned, turned, lane, In, Fresh, Idle, Asks, asked, place_after, after_login, after_command, after_logout, broken, rejected, phase_after_login, replied}
+use Rattle.pr_model.specs.Lanes.{Lane, Phase, Turn, Turned, turned, lane, In, Busy, Fresh, Idle, Asks, asked, turn, carried, place_after, after_login, after_command, after_step, after_logout, broken, rejected, phase_after_login, replied}
 use Rattle.pr_model.specs.Lanes as lanes
 use Rattle.pr_link.specs.declared.frame.Frame.{Frame}
 use Rattle.pr_link.specs.Streams.{frame_of}
+use Rattle.pr_link.specs.declared.deframer.Deframer.{Deframer}
 use Rattle.pr_link.specs.Deframer.{held_of, place_of}
 use Rattle.pr_link.specs.declared.request.Request.{Request}
 use Rattle.pr_link.specs.declared.request.Request.TheVariants as requests
@@ -20,66 +21,82 @@ use Rattle.pr_link.specs.Requests.{request_of}
 use Rattle.pr_session.specs.declared.act.Want.{Want}
 use Rattle.pr_session.specs.declared.state.Rejection.{Rejection}
 use Rattle.pr_session.specs.declared.state.State.{State}
-use Rattle.pr_session.specs.declared.state.State.TheVariants.{Asking}
+use Rattle.pr_session.specs.declared.state.State.TheVariants.{Asking, Busy as Running}
 use Rattle.pr_session.specs.declared.session.Session.{Session}
+use Rattle.pr_session.specs.declared.work.Work.{Work}
+use Rattle.pr_session.specs.declared.job.Job.{Job}
 use Rattle.pr_session.specs.declared.asked.Asked.{Asked}
-use Rattle.pr_session.specs.declared.asked.Asked.TheVariants.{Login, Command, Logout, Reject}
-use Rattle.pr_session.specs.Acts.{act_of, IsShort, Ends}
-use Rattle.pr_session.specs.Asking.{nexus_in, act_in, want_of, next_by}
-use Rattle.pr_session.specs.States.{next_at}
-use Rattle.pr_session.specs.Sessions.{work_of}
+use Rattle.pr_session.specs.declared.asked.Asked.TheVariants.{Login, Command, Step, Logout, Reject}
+use Rattle.pr_session.specs.Places.{data_in}
+use Rattle.pr_session.specs.Jobs.{job_of, begun_by}
+use Rattle.pr_session.specs.Acts.{act_by}
+use Rattle.pr_session.specs.Asking.{nexus_in, want_of, next_by}
+use Rattle.pr_session.specs.States.{phase_of}
+use Rattle.pr_session.specs.Works.{bytes_of}
+use Rattle.pr_session.specs.Sessions.{lane_of, work_of}
 use Rattle.pr_session.specs.Turning.{IsAsked, IsFor, Begins}
 
-pub login_next : (head : Frame) (body : List ℕ) (n : Nexus) (version : ℕ) (held : List ℕ) (place : ℕ) → n ≡ login_nexus body → (out : Out) → next_by (Login head n version) held place out ≡ after_login (frame_of head body) held place out
-login_next head body n version held place is (Login_code code) = ap (λ (m : Nexus). turned (lane held (phase_after_login m code) place) (replied (frame_of head body) 0x81 (login_reply code))) is
-login_next head body n version held place is (Ended status sense data_in) = refl
-login_next head body n version held place is (Started way) = refl
-login_next head body n version held place is Wrote = refl
-login_next head body n version held place is (Read block) = refl
-login_next head body n version held place is Done = refl
-login_next head body n version held place is Aborted = refl
-login_next head body n version held place is (Fault code) = refl
-login_next head body n version held place is Left = refl
-login_next head body n version held place is (Restored value) = refl
+pub login_next : (head : Frame) (body : List ℕ) (n : Nexus) (version : ℕ) (work held : List ℕ) (place : ℕ) → n ≡ login_nexus body → (out : Out) → next_by (Login head n version) work held place out ≡ after_login (frame_of head body) held place out
+login_next head body n version work held place is (Login_code code) = ap (λ (m : Nexus). turned (lane held (phase_after_login m code) place) (replied (frame_of head body) 0x81 (login_reply code))) is
+login_next head body n version work held place is (Ended status sense data_in) = refl
+login_next head body n version work held place is (Started way) = refl
+login_next head body n version work held place is Wrote = refl
+login_next head body n version work held place is (Read block) = refl
+login_next head body n version work held place is Done = refl
+login_next head body n version work held place is Aborted = refl
+login_next head body n version work held place is (Fault code) = refl
+login_next head body n version work held place is Left = refl
+login_next head body n version work held place is (Restored value) = refl
 
-pub command_next : (head : Frame) (body : List ℕ) (n : Nexus) (cdb : List ℕ) (sent : ℕ) (held : List ℕ) (place : ℕ) (out : Out) → Ends out → next_by (Command head n cdb sent) held place out ≡ after_command n (frame_of head body) held place out
-command_next head body n cdb sent held place (Login_code code) ends = refl
-command_next head body n cdb sent held place (Ended status sense data_in) ends = refl
-command_next head body n cdb sent held place (Started way) ends = absurd ends
-command_next head body n cdb sent held place Wrote ends = refl
-command_next head body n cdb sent held place (Read block) ends = refl
-command_next head body n cdb sent held place Done ends = refl
-command_next head body n cdb sent held place Aborted ends = refl
-command_next head body n cdb sent held place (Fault code) ends = refl
-command_next head body n cdb sent held place Left ends = refl
-command_next head body n cdb sent held place (Restored value) ends = refl
+pub command_next : (head : Frame) (body : List ℕ) (n : Nexus) (cdb : List ℕ) (sent : ℕ) (work held : List ℕ) (place : ℕ) → take sent (data_in work) ≡ command_data body
+    → (out : Out) → next_by (Command head n cdb sent) work held place out ≡ after_command n (frame_of head body) held place out
+command_next head body n cdb sent work held place same (Login_code code) = refl
+command_next head body n cdb sent work held place same (Ended status sense bytes) = refl
+command_next head body n cdb sent work held place same (Started way) = ap (λ (d : List ℕ). turned (lane held (Busy n (begun_by head way d)) place) []) same
+command_next head body n cdb sent work held place same Wrote = refl
+command_next head body n cdb sent work held place same (Read block) = refl
+command_next head body n cdb sent work held place same Done = refl
+command_next head body n cdb sent work held place same Aborted = refl
+command_next head body n cdb sent work held place same (Fault code) = refl
+command_next head body n cdb sent work held place same Left = refl
+command_next head body n cdb sent work held place same (Restored value) = refl
 
 -- an act that was asked for
-pub asks : (from : Phase) (n : Nexus) (a : entries.Act) (follows : Out → Turned) (w : Want) (s : Session) (what : Asked) → s.state ≡ Asking what → w ≡ want_of what → nexus_in what ≡ n → act_of (act_in what) (work_of s) ≡ a → IsShort (act_in what) → IsFor from n (act_in what)
-    → ((out : Out) → Ends out → next_by what (held_of s.deframer) (place_of s.deframer) out ≡ follows out) → IsAsked from n a follows w s
-asks from n a follows w s what state want nexus act short is_for next =
-    record {
-      what = what;
-      state = state;
-      want = want;
-      nexus = nexus;
-      act = act;
-      short = short;
-      phase = is_for;
-      next = λ out ends. ap (λ (t : State). next_at t (held_of s.deframer) (place_of s.deframer) out) state ∙ next out ends;
-    }
+pub asks : (from : Phase) (n : Nexus) (a : entries.Act) (follows : Out → Turned) (w : Want) (s : Session) (what : Asked) → s.state ≡ Asking what → w ≡ want_of what → nexus_in what ≡ n → act_by what (work_of s) ≡ a → IsFor from what (work_of s)
+    → ((out : Out) → next_by what (work_of s) (held_of s.deframer) (place_of s.deframer) out ≡ follows out) → IsAsked from n a follows w s
+asks from n a follows w s what state want nexus act is_for next =
+    record { what = what; state = state; want = want; nexus = nexus; act = act; phase = is_for; next = next }
 
 -- a frame that breaks a rule where a nexus is logged in
 pub refused : (l : Lane) (n : Nexus) (r : Rejection) (w : Want) (s : Session) (from : Phase) → l.phase ≡ from → from ≡ In n → s.state ≡ Asking (Reject n r) → w ≡ want_of (Reject n r) → Begins l (broken from r.place r.reason) w s
 refused l n r w s from same is state want =
     subst (λ (p : Phase). l.phase ≡ p → Begins l (broken p r.place r.reason) w s) (sym is)
-    (λ in_n. subst (λ (p : Phase). IsAsked p n entries.Logout (λ _. rejected r.reason r.place) w s) (sym in_n) (asks (In n) n entries.Logout (λ _. rejected r.reason r.place) w s (Reject n r) state want refl refl tt refl (λ out ends. refl))) same
+    (λ in_n. subst (λ (p : Phase). IsAsked p n entries.Logout (λ _. rejected r.reason r.place) w s) (sym in_n) (asks (In n) n entries.Logout (λ _. rejected r.reason r.place) w s (Reject n r) state want refl refl refl (λ out. refl))) same
 
 -- a Logout of a nexus that is logged in
 pub left : (l : Lane) (n : Nexus) (head : Frame) (body : List ℕ) (w : Want) (s : Session) → l.phase ≡ In n → s.state ≡ Asking (Logout head n) → w ≡ want_of (Logout head n) → IsAsked l.phase n entries.Logout (λ _. after_logout (frame_of head body)) w s
 left l n head body w s in_n state want =
     subst (λ (p : Phase). IsAsked p n entries.Logout (λ _. after_logout (frame_of head body)) w s) (sym in_n)
-    (asks (In n) n entries.Logout (λ _. after_logout (frame_of head body)) w s (Logout head n) state want refl refl tt refl (λ out ends. refl))
+    (asks (In n) n entries.Logout (λ _. after_logout (frame_of head body)) w s (Logout head n) state want refl refl refl (λ out. refl))
+
+-- a step of a task that runs
+pub stepping : (old s : Session) (n : Nexus) (j : Job) (w : Want) → old.state ≡ Running n j → s.state ≡ Asking (Step n j) → w ≡ want_of (Step n j) → s.deframer ≡ old.deframer → s.work ≡ old.work → Begins (lane_of old) (turn (lane_of old)) w s
+stepping old s n j w runs state want stream work =
+    let held : List ℕ = held_of old.deframer in
+    let place : ℕ = place_of old.deframer in
+    let job = job_of j (work_of old) in
+    let busy : phase_of old.state (work_of old) ≡ Busy n job = ap (λ (t : State). phase_of t (work_of old)) runs in
+    let made : IsAsked (Busy n job) n (entries.Step (carried job)) (after_step n job held place) w s =
+    record {
+      what = Step n j;
+      state = state;
+      want = want;
+      nexus = refl;
+      act = ap (λ (b : Work). entries.Step (carried (job_of j (bytes_of b)))) work;
+      phase = (refl, ap (λ (b : Work). job_of j (bytes_of b)) (sym work));
+      next = λ out. ap (λ (b : Work). after_step n (job_of j (bytes_of b)) (held_of s.deframer) (place_of s.deframer) out) work ∙ ap (λ (d : Deframer). after_step n job (held_of d) (place_of d) out) stream;
+    } in
+    subst (λ (p : Phase). Begins (lane held p place) (turn (lane held p place)) w s) (sym busy) made
 
 -- what a frame asks for, by the request that it carries
 abbrev pub asked_by : Phase → ℕ → frames.Frame → List ℕ → Request → Turn

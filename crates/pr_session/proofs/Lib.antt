@@ -1,4 +1,8 @@
+mod Blocks
+mod Jobs
 mod Parts
 mod Turns
 mod Askings
+mod Stepping
+mod Doing
 mod Drivings

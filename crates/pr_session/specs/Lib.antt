@@ -1,5 +1,7 @@
 pub mod Works
 pub mod Streams
+pub mod Places
+pub mod Jobs
 pub mod Acts
 pub mod Asking
 pub mod States

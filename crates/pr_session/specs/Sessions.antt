@@ -2,15 +2,15 @@
 use Rattle.std.specs.Prelude.{◌≡◌, ℕ, ◌-◌, List, slice_range, Option}
 use Rattle.pr_words.specs.declared.nexus.Nexus.{Nexus}
 use Rattle.pr_link.specs.Deframer.{held_of, place_of}
-use Rattle.pr_model.specs.Entries.{Out}
 use Rattle.pr_model.specs.Lanes.{Lane, Turned, lane}
-use Rattle.pr_session.specs.declared.act.Out as acts
+use Rattle.pr_session.specs.declared.act.Out.{Out}
 use Rattle.pr_session.specs.declared.state.Rejection.{Rejection}
 use Rattle.pr_session.specs.declared.state.State.TheVariants.{Asking}
 use Rattle.pr_session.specs.declared.session.Session.{Session}
 use Rattle.pr_session.specs.declared.asked.Asked.{Asked}
+use Rattle.pr_session.specs.declared.asked.Asked.TheVariants.{Step}
+use Rattle.pr_session.specs.declared.job.Job.{Job}
 use Rattle.pr_session.specs.Acts.{Fits}
-use Rattle.pr_session.specs.Asking.{act_in}
 use Rattle.pr_session.specs.States.{IsSettledIn, phase_of, nexus_at, rejection_at, next_at}
 use Rattle.pr_session.specs.declared.work.TheConstants.{ROOM}
 use Rattle.pr_session.specs.Works.{bytes_of}
@@ -18,16 +18,16 @@ use Rattle.pr_session.specs.Works.{bytes_of}
 abbrev pub IsSettled : Session → Type 0
 IsSettled s = IsSettledIn s.state
 
+abbrev pub work_of : Session → List ℕ
+work_of s = bytes_of s.work
+
 -- the lane, where no turn is under way
 abbrev pub lane_of : Session → Lane
-lane_of s = lane (held_of s.deframer) (phase_of s.state) (place_of s.deframer)
+lane_of s = lane (held_of s.deframer) (phase_of s.state (work_of s)) (place_of s.deframer)
 
 -- what the turn under way makes of an outcome
 abbrev pub next_of : Session → Out → Turned
-next_of s out = next_at s.state (held_of s.deframer) (place_of s.deframer) out
-
-abbrev pub work_of : Session → List ℕ
-work_of s = bytes_of s.work
+next_of s out = next_at s.state (work_of s) (held_of s.deframer) (place_of s.deframer) out
 
 -- the bytes of the reply that aren't sent yet
 abbrev pub reply_of : Session → List ℕ
@@ -49,10 +49,14 @@ pub record HasTurned (s : Session) (t : Turned) : Type 0 where
   pub lane : lane_of s ≡ t.lane
   pub reply : reply_of s ≡ t.reply
 
+-- its turn under way is a step of a task
+abbrev pub IsStepping : Session → Type 0
+IsStepping s = (n : Nexus) × (j : Job) × (s.state ≡ Asking (Step n j))
+
 -- its turn under way has an outcome like this
-abbrev pub IsAnswer : Session → acts.Out → Type 0
-IsAnswer s out = (a : Asked) × (s.state ≡ Asking a) × Fits (act_in a) out
+abbrev pub IsAnswer : Session → Out → Type 0
+IsAnswer s out = (a : Asked) × (s.state ≡ Asking a) × Fits a out
 
 -- but for the reply all is as it was
 abbrev pub IsKept : Session → Session → Type 0
-IsKept before now = (now.state ≡ before.state) × (now.deframer ≡ before.deframer)
+IsKept before now = (now.state ≡ before.state) × (lane_of now ≡ lane_of before)

@@ -1,5 +1,5 @@
 -- How a session takes the turns of its lane.
-use Rattle.std.specs.Prelude.{◌≡◌, []}
+use Rattle.std.specs.Prelude.{◌≡◌, ℕ, ◌≤◌, List, []}
 use Rattle.pr_words.specs.declared.nexus.Nexus.{Nexus}
 use Rattle.pr_words.specs.declared.nexus.Side.TheVariants.{Target}
 use Rattle.pr_grammar.specs.Frames.{Front, Lacking, Broken, Whole, front}
@@ -7,17 +7,19 @@ use Rattle.pr_model.specs.Entries.{Out}
 use Rattle.pr_model.specs.Entries as entries
 use Rattle.pr_model.specs.Lanes.{Lane, Phase, Turn, Turned, turned, Idle, Silent, Asks}
 use Rattle.pr_model.specs.Lanes as lanes
-use Rattle.pr_session.specs.declared.act.Act.{Act}
-use Rattle.pr_session.specs.declared.act.Act.TheVariants as act
 use Rattle.pr_session.specs.declared.act.Want.{Want}
 use Rattle.pr_session.specs.declared.act.Want.TheVariants as want
 use Rattle.pr_session.specs.declared.session.Session.{Session}
 use Rattle.pr_session.specs.declared.state.State.{State}
 use Rattle.pr_session.specs.declared.state.State.TheVariants.{Asking}
 use Rattle.pr_session.specs.declared.asked.Asked.{Asked}
-use Rattle.pr_session.specs.Acts.{act_of, IsShort, Ends}
-use Rattle.pr_session.specs.Asking.{nexus_in, act_in, want_of}
-use Rattle.pr_session.specs.Sessions.{HasTurned, next_of, work_of}
+use Rattle.pr_session.specs.declared.asked.Asked.TheVariants.{Login, Command, Step, Logout, Reject}
+use Rattle.pr_words.specs.declared.limits.TheConstants.{DATA}
+use Rattle.pr_link.specs.Deframer.{held_of, place_of}
+use Rattle.pr_session.specs.Jobs.{job_of}
+use Rattle.pr_session.specs.Acts.{act_by}
+use Rattle.pr_session.specs.Asking.{nexus_in, want_of, next_by}
+use Rattle.pr_session.specs.Sessions.{HasTurned, work_of}
 
 -- what an idle lane wants: more bytes, or nothing any more
 abbrev pub AwaitsAt : Phase → Front → Want → Type 0
@@ -28,12 +30,14 @@ AwaitsAt phase f w = ⊥
 abbrev pub Awaits : Lane → Want → Type 0
 Awaits l w = AwaitsAt l.phase (front Target l.bytes) w
 
--- a session asks for an act only in its state: a login where it is fresh, else for the nexus that is logged in
-abbrev pub IsFor : Phase → Nexus → Act → Type 0
-IsFor lanes.Fresh n (act.Login version) = Unit {0}
-IsFor (lanes.In m) n (act.Command lun cdb sent) = m ≡ n
-IsFor (lanes.In m) n act.Logout = m ≡ n
-IsFor _ n a = ⊥
+-- a session asks for an act only in its state: a login where it is fresh, a step where a task runs, else for the nexus that is logged in; a command has no more data-out than a frame can carry
+abbrev pub IsFor : Phase → Asked → List ℕ → Type 0
+IsFor lanes.Fresh (Login head n version) work = Unit {0}
+IsFor (lanes.In m) (Command head n cdb sent) work = (m ≡ n) × (sent ≤ DATA)
+IsFor (lanes.In m) (Logout head n) work = m ≡ n
+IsFor (lanes.In m) (Reject n r) work = m ≡ n
+IsFor (lanes.Busy m k) (Step n j) work = (m ≡ n) × (k ≡ job_of j work)
+IsFor _ a work = ⊥
 
 -- the act of a turn is wanted: whatever its outcome is, the session makes the turn
 pub record IsAsked (from : Phase) (n : Nexus) (a : entries.Act) (follows : Out → Turned) (w : Want) (s : Session) : Type 0 where
@@ -41,10 +45,9 @@ pub record IsAsked (from : Phase) (n : Nexus) (a : entries.Act) (follows : Out �
   pub state : s.state ≡ Asking what
   pub want : w ≡ want_of what
   pub nexus : nexus_in what ≡ n
-  pub act : act_of (act_in what) (work_of s) ≡ a
-  pub short : IsShort (act_in what)
-  pub phase : IsFor from n (act_in what)
-  pub next : (out : Out) → Ends out → next_of s out ≡ follows out
+  pub act : act_by what (work_of s) ≡ a
+  pub phase : IsFor from what (work_of s)
+  pub next : (out : Out) → next_by what (work_of s) (held_of s.deframer) (place_of s.deframer) out ≡ follows out
 
 -- a turn of the lane for which the session stands is begun: an idle one leaves it as it is, one without an entry is made, which is a Reject's, and else its act is wanted
 abbrev pub Begins : Lane → Turn → Want → Session → Type 0

@@ -2,6 +2,7 @@
 
 use pr_core::CommandOut;
 use pr_link::RawCdb;
+use pr_tasks::StepOut;
 use pr_words::Nexus;
 
 /// What is asked of a target for a nexus.
@@ -17,6 +18,8 @@ pub enum Act {
         cdb: RawCdb,
         out_len: usize,
     },
+    /// A step of the task that the last command began. It moves the session's block.
+    Step,
     /// A logout.
     Logout,
 }
@@ -39,6 +42,8 @@ pub enum Out {
     Login(u8),
     /// A command's answer, whose data-in stands at the front of the session's data.
     Command(CommandOut),
+    /// What a step did. What it read stands in the session's block.
+    Step(StepOut),
     /// The nexus is logged out.
     Logout,
 }

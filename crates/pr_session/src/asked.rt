@@ -1,6 +1,7 @@
 //! A turn that waits for the outcome of its act.
 
 use crate::act::{Act, Want};
+use crate::job::Job;
 use crate::state::Rejection;
 use pr_link::{Frame, RawCdb};
 use pr_words::Nexus;
@@ -20,6 +21,11 @@ pub(crate) enum Asked {
         nexus: Nexus,
         cdb: RawCdb,
         out_len: usize,
+    },
+    /// A step of a task.
+    Step {
+        nexus: Nexus,
+        job: Job,
     },
     /// A Logout frame's.
     Logout {
@@ -57,6 +63,7 @@ impl Asked {
                     out_len,
                 },
             ),
+            Asked::Step { nexus, .. } => Want::Act(nexus, Act::Step),
             Asked::Logout { nexus, .. } | Asked::Reject { nexus, .. } => {
                 Want::Act(nexus, Act::Logout)
             }
@@ -70,6 +77,7 @@ impl Asked {
         match *self {
             Asked::Login { .. } => None,
             Asked::Command { nexus, .. }
+            | Asked::Step { nexus, .. }
             | Asked::Logout { nexus, .. }
             | Asked::Reject { nexus, .. } => Some(nexus),
         }

@@ -5,7 +5,7 @@ ghost use Rattle.pr_model.specs.Lanes.{turn, fresh, turned};
 ghost use Rattle.pr_model.specs.Runs.{closing};
 ghost use Rattle.pr_core.specs.View.{KeepsOthers, Extends};
 ghost use Rattle.pr_session.specs.Sessions.{IsSettled, HasTurned, lane_of, reply_of};
-ghost use Rattle.pr_session.specs.Driving.{Agrees, Follows};
+ghost use Rattle.pr_session.specs.Driving.{Agrees, Follows, LeavesLess};
 
 use crate::act::Want;
 use crate::session::Session;
@@ -22,12 +22,13 @@ pub fn drive<M: Medium, D: Disk>(session: &mut Session, core: &mut Core<M, D>, w
         core.new (lane_of session.new) (reply_of session.new) }
     ensures settled { IsSettled session.new }
     ensures agrees { Agrees (lane_of session.new).phase who core.new }
+    ensures onward { LeavesLess (lane_of session.old).phase (lane_of session.new).phase }
     ensures others { KeepsOthers who core.old core.new }
 {
     match session.want() {
         Want::Need(_) | Want::Dead => {}
-        Want::Act(nexus, act) => {
-            let out = session.perform(core, who, nexus, &act);
+        Want::Act(..) => {
+            let out = session.perform(core, who);
             session.answer(&out);
         }
     }

@@ -3,8 +3,10 @@
 #![tactic(auto)]
 
 mod act;
+mod acting;
 mod asked;
 mod driving;
+mod job;
 mod session;
 mod state;
 mod work;

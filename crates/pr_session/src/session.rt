@@ -1,34 +1,40 @@
 //! The session of one connection.
 
-ghost use Rattle.std.specs.Prelude.{◌≡◌, ◌+◌, ◌-◌, ◌≤◌, ◌<◌, ◌++◌, ◌∷◌, [], Some, None, true, take, drop, length, slice_range, IfOk, MatchBool, ℕ, List};
-ghost use Rattle.pr_grammar.specs.Bodies.{login_reply};
+ghost use Rattle.std.specs.Prelude.{◌≡◌, ◌+◌, ◌-◌, ◌≤◌, ◌<◌, ◌++◌, ◌∷◌, [], Some, None, true, false, take, drop, length, slice_range, IfOk, MatchBool, ℕ, List};
+ghost use Rattle.pr_grammar.specs.Bodies.{login_reply, command_reply};
 ghost use Rattle.pr_grammar.specs.Frames.{front, frame, spelled};
 ghost use Rattle.pr_words.specs.declared.nexus.Nexus.{Nexus};
 ghost use Rattle.pr_words.specs.declared.nexus.Side.TheVariants.{Target};
 ghost use Rattle.pr_words.specs.declared.limits.TheConstants.{HELD, COMMAND_HEAD};
+ghost use Rattle.pr_session.specs.declared.job.Job.{Job};
 ghost use Rattle.pr_session.specs.declared.work.TheConstants.{ROOM};
 ghost use Rattle.pr_link.specs.Replies.{IsWritable, reply_frame, data_in_of};
-ghost use Rattle.pr_model.specs.Entries.{entry};
-ghost use Rattle.pr_model.specs.Lanes.{Lane, lane, turn, broken, asked, fresh, dead, arrived, rejected, turned, place_after, phase_after_login, after_command};
+ghost use Rattle.pr_model.specs.Lanes.{Lane, lane, turn, broken, asked, fresh, dead, arrived, rejected, turned, place_after, phase_after_login, after_step};
 ghost use Rattle.pr_model.specs.Lanes as lanes;
-ghost use Rattle.pr_core.specs.Outs.{IsProper, IsEnded, out_of};
-ghost use Rattle.pr_core.specs.View.{KeepsOthers, Extends};
+ghost use Rattle.pr_core.specs.Outs.{IsProper, IsFed, out_of, step_out};
+ghost use Rattle.pr_core.specs.View.{KeepsOthers};
 ghost use Rattle.pr_link.specs.Streams as streams;
 ghost use Rattle.pr_link.specs.Deframer.{stream_of, held_of, place_of};
 ghost use Rattle.pr_session.specs.Streams.{IsIntact};
 ghost use Rattle.pr_session.specs.Feeding.{fed};
-ghost use Rattle.pr_session.specs.States.{IsSettledIn, phase_of, living, rejection_at, rejection_in};
-ghost use Rattle.pr_session.specs.Acts.{act_of, outcome_of, Fits, IsShort};
-ghost use Rattle.pr_session.specs.Coming.{IsOwner, Owns};
+ghost use Rattle.pr_session.specs.States.{IsSettledIn, is_busy, phase_of, phase_in, living, rejection_at, rejection_in};
+ghost use Rattle.pr_session.specs.Jobs.{job_of, block_in, FitsStep};
+ghost use Rattle.pr_session.specs.Places.{data_in};
+ghost use Rattle.pr_session.specs.Asking.{next_by};
+ghost use Rattle.pr_session.specs.declared.asked.Asked.{Asked};
+ghost use Rattle.pr_session.specs.declared.asked.Asked.TheVariants as waits;
+ghost use Rattle.pr_session.specs.declared.state.State.TheVariants as states;
 
-use crate::act::{Act, Out, Want};
+use crate::act::{Out, Want};
 use crate::asked::Asked;
+use crate::job::Job;
 use crate::state::{Rejection, State};
 use crate::work::{ROOM, Work};
 use pr_core::{CommandOut, Core};
 use pr_io::{Disk, Medium};
 use pr_link::{Deframer, Frame, Got, Reply, Request};
-use pr_words::{COMMAND_HEAD, HELD, Nexus, Side};
+use pr_tasks::StepOut;
+use pr_words::{BLOCK, COMMAND_HEAD, HELD, Nexus, Sense, Side, Status};
 use std::alloc::{AllocError, Global};
 
 /// The session of one connection: it takes bytes, says what they ask for, is told how that came
@@ -47,12 +53,15 @@ pub struct Session {
     ghost roomed: { ROOM ≤ start },
     ghost order: { start ≤ stop },
     ghost within: { stop ≤ HELD },
+    ghost quiet: { is_busy state ≡ true → (start ≡ ROOM) × (stop ≡ ROOM) },
 }
 
 impl Session {
     ghost use Rattle.pr_session.specs.Asking.{want_of};
-    ghost use Rattle.pr_session.specs.Sessions.{IsSettled, IsAnswer, lane_of, next_of, work_of, reply_of, room_of, nexus_of, rejection_of, HasTurned, IsKept};
+    ghost use Rattle.pr_link.specs.Replies as replies;
+    ghost use Rattle.pr_session.specs.Sessions.{IsSettled, IsStepping, IsAnswer, lane_of, next_of, work_of, reply_of, room_of, nexus_of, rejection_of, HasTurned, IsKept};
     ghost use Rattle.pr_session.specs.Turning.{Begins, Continues};
+    ghost use Rattle.pr_session.specs.Driving.{IsReadyIn, Does};
 
     /// A new connection. All memory is taken here: 524,320 bytes for what is held, and as many to
     /// work in.
@@ -104,7 +113,7 @@ impl Session {
     {
         match self.state {
             State::Dead(rejection) => rejection,
-            State::Fresh | State::In(_) | State::Asking(_) => None,
+            State::Fresh | State::In(_) | State::Busy(..) | State::Asking(_) => None,
         }
     }
 
@@ -113,7 +122,7 @@ impl Session {
         ensures { result ≡ nexus_of self.now }
     {
         match self.state {
-            State::In(nexus) => Some(nexus),
+            State::In(nexus) | State::Busy(nexus, _) => Some(nexus),
             State::Fresh | State::Dead(_) => None,
             State::Asking(asked) => asked.nexus(),
         }
@@ -121,8 +130,8 @@ impl Session {
 
     fn is_dead(&self) -> bool
         requires { IsSettled self.now }
-        ensures { MatchBool result (phase_of self.now.state ≡ lanes.Dead)
-            (phase_of self.now.state ≡ lanes.Dead → ⊥) }
+        ensures { MatchBool result ((lane_of self.now).phase ≡ lanes.Dead)
+            ((lane_of self.now).phase ≡ lanes.Dead → ⊥) }
     {
         matches!(self.state, State::Dead(_))
     }
@@ -162,8 +171,9 @@ impl Session {
         }
     }
 
-    /// Writes four bytes in front of the reply, as the head of a record that has it.
+    /// Writes four bytes in front of a reply that waits, as the head of a record that has it.
     pub fn put_head(&mut self, head: [u8; 4])
+        requires { 0 < length (reply_of self.old) }
         ensures room { room_of self.new ≡ head }
         ensures reply { reply_of self.new ≡ reply_of self.old }
         ensures keeps { IsKept self.old self.new }
@@ -193,6 +203,7 @@ impl Session {
             State::Dead(_) => Want::Dead,
             State::Fresh => self.begin(None),
             State::In(nexus) => self.begin(Some(nexus)),
+            State::Busy(nexus, job) => self.ask(Asked::Step { nexus, job }),
         }
     }
 
@@ -223,8 +234,8 @@ impl Session {
 
     /// A frame breaks a rule.
     fn refuse(&mut self, logged_in: Option<Nexus>, rejection: Rejection) -> Want
-        ensures { (l : Lane) → l.phase ≡ phase_of (living logged_in) →
-            Begins l (broken (phase_of (living logged_in)) rejection.place rejection.reason)
+        ensures { (l : Lane) → l.phase ≡ phase_in logged_in →
+            Begins l (broken (phase_in logged_in) rejection.place rejection.reason)
             result self.new }
     {
         match logged_in {
@@ -241,8 +252,8 @@ impl Session {
         requires formed { streams.IsFormed Target head (work_of self.old) }
         requires placed { place_of self.old.deframer ≡
             place_after place (streams.frame_of head (take head.body (work_of self.old))) }
-        ensures { (l : Lane) → l.phase ≡ phase_of (living logged_in) →
-            Begins l (asked (phase_of (living logged_in)) place
+        ensures { (l : Lane) → l.phase ≡ phase_in logged_in →
+            Begins l (asked (phase_in logged_in) place
             (streams.frame_of head (take head.body (work_of self.old)))
             (held_of self.old.deframer)) result self.new }
     {
@@ -278,41 +289,54 @@ impl Session {
         self.work.range(COMMAND_HEAD, HELD)
     }
 
+    /// The block of the step last wanted, of 512 bytes: those that it carries first, and once it was
+    /// done those that it read.
+    pub fn block(&self) -> &[u8]
+        requires { IsStepping self.now }
+        ensures { (nexus : Nexus) (job : Job) → self.now.state ≡ states.Asking (waits.Step nexus job)
+            → result.now ≡ block_in job (work_of self.now) }
+    {
+        let State::Asking(Asked::Step { job, .. }) = self.state else {
+            unreachable!();
+        };
+        let at = job.block_place();
+        self.work.range(at, at + BLOCK)
+    }
+
     /// Has the act that is wanted done by a target, under a number. A command has its data-out from the
-    /// work buffer, and leaves its data-in there.
-    pub fn perform<M: Medium, D: Disk>(
-        &mut self,
-        core: &mut Core<M, D>,
-        who: u64,
-        nexus: Nexus,
-        act: &Act,
-    ) -> Out
-        requires owner { IsOwner act.now core.old nexus who }
-        requires short { IsShort act.now }
-        ensures entry { Extends core.old core.new (entry who nexus (act_of act.now (work_of self.old))
-            (outcome_of result (work_of self.new)) ∷ []) }
-        ensures fits { Fits act.now result }
+    /// work buffer, and leaves its data-in there, and a step moves its block from there or to there.
+    pub fn perform<M: Medium, D: Disk>(&mut self, core: &mut Core<M, D>, who: u64) -> Out
+        requires { IsReadyIn self.old core.old who }
+        ensures does { (a : Asked) → self.old.state ≡ states.Asking a → Does a who core.old
+            (work_of self.old) result core.new (work_of self.new) }
         ensures keeps { (self.new.state ≡ self.old.state) × (self.new.deframer ≡ self.old.deframer) }
-        ensures owns { Owns act.now result core.new nexus who }
         ensures others { KeepsOthers who core.old core.new }
     {
-        match *act {
-            Act::Login { version } => Out::Login(core.login(who, version, nexus)),
-            Act::Command { lun, cdb, out_len } => {
-                Out::Command(self.work.command(core, who, nexus, lun, &cdb, out_len))
+        let State::Asking(asked) = self.state else {
+            unreachable!();
+        };
+        match asked {
+            Asked::Login { nexus, version, .. } => Out::Login(core.login(who, version, nexus)),
+            Asked::Command {
+                head,
+                nexus,
+                cdb,
+                out_len,
+            } => Out::Command(self.work.command(core, who, nexus, head.lun, &cdb, out_len)),
+            Asked::Step { nexus, job } => {
+                Out::Step(self.work.step(core, who, nexus, job.block_place()))
             }
-            Act::Logout => {
+            Asked::Logout { nexus, .. } | Asked::Reject { nexus, .. } => {
                 core.logout(who, nexus);
                 Out::Logout
             }
         }
     }
 
-    /// How the act that is wanted came out. The reply then waits.
+    /// How the act that is wanted came out. The reply then waits, if there is one.
     pub fn answer(&mut self, out: &Out)
         requires { IsAnswer self.old out.now }
-        ensures turned { HasTurned self.new
-            (next_of self.old (outcome_of out.now (work_of self.old))) }
+        ensures turned { HasTurned self.new (next_of self.old out.now) }
         ensures rejection { rejection_of self.new ≡ rejection_in self.old.state }
     {
         let State::Asking(asked) = self.state else {
@@ -322,9 +346,16 @@ impl Session {
             (Asked::Login { head, nexus, .. }, Out::Login(code)) => {
                 self.answer_login(head, nexus, code);
             }
-            (Asked::Command { head, nexus, .. }, Out::Command(out)) => {
-                self.answer_command(head, nexus, out);
-            }
+            (
+                Asked::Command {
+                    head,
+                    nexus,
+                    out_len,
+                    ..
+                },
+                Out::Command(out),
+            ) => self.answer_command(head, nexus, out_len, out),
+            (Asked::Step { nexus, job }, Out::Step(out)) => self.answer_step(nexus, job, out),
             (Asked::Logout { head, .. }, Out::Logout) => self.leave(head),
             (Asked::Reject { rejection, .. }, Out::Logout) => self.reject(rejection),
             _ => unreachable!(),
@@ -333,10 +364,11 @@ impl Session {
 
     /// A reply to a request with this LUN and tag waits.
     fn reply_with(&mut self, lun: u16, tag: u32, reply: &Reply)
-        requires { IsWritable reply.now }
+        requires writable { IsWritable reply.now }
+        requires idle { is_busy self.old.state ≡ false }
         ensures reply { reply_of self.new ≡ spelled (reply_frame reply.now lun tag
-            (take (data_in_of reply.now) (drop COMMAND_HEAD (work_of self.old)))) }
-        ensures keeps { IsKept self.old self.new }
+            (take (data_in_of reply.now) (data_in (work_of self.old)))) }
+        ensures keeps { (self.new.state ≡ self.old.state) × (self.new.deframer ≡ self.old.deframer) }
     {
         let len = self.work.write_reply(lun, tag, reply);
         self.start = ROOM;
@@ -354,24 +386,72 @@ impl Session {
         self.reply_with(head.lun, head.tag, &Reply::Login { code });
     }
 
-    /// A command is answered.
-    fn answer_command(&mut self, head: Frame, nexus: Nexus, out: CommandOut)
+    /// A command is answered, or its task begins.
+    fn answer_command(&mut self, head: Frame, nexus: Nexus, out_len: usize, out: CommandOut)
         requires proper { IsProper out }
-        requires ended { IsEnded out }
-        ensures turned { (held : List ℕ) (place : ℕ) → held ≡ held_of self.old.deframer →
-            place ≡ place_of self.old.deframer → HasTurned self.new
-            (after_command nexus (streams.frame_of head []) held place
-            (out_of out (drop COMMAND_HEAD (work_of self.old)))) }
+        requires fed { IsFed out out_len }
+        ensures turned { (cdb : List ℕ) → HasTurned self.new (next_by
+            (waits.Command head nexus cdb out_len) (work_of self.old) (held_of self.old.deframer)
+            (place_of self.old.deframer) (out_of out (data_in (work_of self.old)))) }
+        ensures rejection { rejection_of self.new ≡ None }
+    {
+        match out {
+            CommandOut::Ended { status, sense, len } => {
+                self.end(nexus, head, status, sense, len);
+            }
+            CommandOut::Started { way, .. } => self.go_on(nexus, Job::begin(head, way, out_len)),
+        }
+    }
+
+    /// A step of a task is made: it goes on, or its command is answered.
+    fn answer_step(&mut self, nexus: Nexus, job: Job, out: StepOut)
+        requires { FitsStep job out }
+        ensures turned { HasTurned self.new (after_step nexus (job_of job (work_of self.old))
+            (held_of self.old.deframer) (place_of self.old.deframer)
+            (step_out out (block_in job (work_of self.old)))) }
+        ensures rejection { rejection_of self.new ≡ None }
+    {
+        match out {
+            StepOut::Wrote { .. } => self.go_on(nexus, job.after_write()),
+            StepOut::Read { .. } => self.go_on(nexus, job.after_read()),
+            StepOut::Done => self.end(nexus, job.head, Status::Good, None, job.data_in()),
+            StepOut::Aborted => self.end(nexus, job.head, Status::TaskAborted, None, 0),
+            StepOut::Fault(code) => {
+                let sense = Sense { code, info: None };
+                self.end(nexus, job.head, Status::CheckCondition, Some(sense), 0);
+            }
+        }
+    }
+
+    /// A task of a nexus goes on, without a reply.
+    fn go_on(&mut self, nexus: Nexus, job: Job)
+        ensures turned { HasTurned self.new (turned (lane (held_of self.old.deframer)
+            (lanes.Busy nexus (job_of job (work_of self.old))) (place_of self.old.deframer)) []) }
+        ensures rejection { rejection_of self.new ≡ None }
+    {
+        self.state = State::Busy(nexus, job);
+        self.start = ROOM;
+        self.stop = ROOM;
+    }
+
+    /// The command with this head has ended, with so many bytes of data-in, and is answered.
+    fn end(
+        &mut self,
+        nexus: Nexus,
+        head: Frame,
+        status: Status,
+        sense: Option<Sense>,
+        len: usize,
+    )
+        requires { replies.IsAnswer status sense len }
+        ensures turned { HasTurned self.new (turned (lane (held_of self.old.deframer)
+            (lanes.In nexus) (place_of self.old.deframer)) (spelled (frame 0x82 head.lun head.tag
+            (command_reply status sense (take len (data_in (work_of self.old))))))) }
         ensures rejection { rejection_of self.new ≡ None }
     {
         self.state = State::In(nexus);
-        match out {
-            CommandOut::Ended { status, sense, len } => {
-                let reply = Reply::of_command(status, sense, len);
-                self.reply_with(head.lun, head.tag, &reply);
-            }
-            CommandOut::Started { .. } => unreachable!(),
-        }
+        let reply = Reply::of_command(status, sense, len);
+        self.reply_with(head.lun, head.tag, &reply);
     }
 
     /// A Logout is answered, and the session ends.
@@ -400,7 +480,8 @@ impl Session {
 /// What a session has reached after a Login.
 fn state_after(nexus: Nexus, code: u8) -> State
     ensures settled { IsSettledIn result }
-    ensures phase { phase_of result ≡ phase_after_login nexus code }
+    ensures phase { (work : List ℕ) → phase_of result work ≡ phase_after_login nexus code }
+    ensures idle { is_busy result ≡ false }
     ensures rejection { rejection_at result ≡ None }
 {
     if code == 0 {

@@ -1,6 +1,7 @@
 //! What a session has reached.
 
 use crate::asked::Asked;
+use crate::job::Job;
 use pr_words::Nexus;
 
 /// Why a session was ended by a Reject: the frame behind the first `place` bytes of its connection,
@@ -19,6 +20,8 @@ pub(crate) enum State {
     Fresh,
     /// This nexus is logged in.
     In(Nexus),
+    /// And so it is here, and a task of it runs.
+    Busy(Nexus, Job),
     /// The session has ended, by a Reject or by a Logout.
     Dead(Option<Rejection>),
     /// A turn waits for the outcome of its act.

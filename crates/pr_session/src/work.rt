@@ -1,22 +1,20 @@
 //! The buffer in which a session works.
 
-ghost use Rattle.std.specs.Prelude.{◌≡◌, ◌+◌, ◌≤◌, ◌<◌, ◌++◌, ◌∷◌, [], Some, None, true, take, drop, length, slice_range, vec_len, IfOk};
+ghost use Rattle.std.specs.Prelude.{◌≡◌, ◌+◌, ◌≤◌, ◌++◌, take, drop, length, slice_range, vec_len};
 ghost use Rattle.pr_words.specs.declared.nexus.Side.TheVariants.{Target};
+ghost use Rattle.pr_words.specs.declared.limits.TheConstants.{BLOCK, DATA, HELD, COMMAND_HEAD};
 ghost use Rattle.pr_grammar.specs.Frames.{front, spelled};
-ghost use Rattle.pr_model.specs.Entries.{entry, Command};
 ghost use Rattle.pr_link.specs.Replies.{IsWritable, reply_frame, data_in_of};
-ghost use Rattle.pr_words.specs.declared.limits.TheConstants.{DATA, HELD, COMMAND_HEAD};
 ghost use Rattle.pr_link.specs.Deframer.{stream_of, held_of};
-ghost use Rattle.pr_core.specs.Outs.{out_of, IsProper, IsEnded};
-ghost use Rattle.pr_core.specs.View.{KeepsOthers, Extends};
-ghost use Rattle.pr_session.specs.Coming.{IsIdleIn};
 ghost use Rattle.pr_session.specs.declared.work.TheConstants.{ROOM};
 ghost use Rattle.pr_session.specs.Streams.{IsIntact, Receives};
 
+use crate::acting::{command_on, step_on};
 use pr_core::{CommandOut, Core};
 use pr_io::{Disk, Medium};
 use pr_link::{Deframer, Got, RawCdb, Reply};
-use pr_words::{COMMAND_HEAD, HELD, Nexus};
+use pr_tasks::StepOut;
+use pr_words::{HELD, Nexus};
 use std::alloc::{AllocError, Global};
 
 /// The bytes in front of a reply, for the head of a record that has it. With them, a reply's data-in
@@ -32,6 +30,13 @@ pub(crate) struct Work {
 }
 
 impl Work {
+    ghost use Rattle.std.specs.Prelude.{◌∷◌, [], ℕ, List, Some, is_some, true};
+    ghost use Rattle.pr_model.specs.Entries.{entry, Command, Step};
+    ghost use Rattle.pr_tasks.specs.Steps.{LeavesBlock};
+    ghost use Rattle.pr_core.specs.Outs.{out_of, step_out, IsProper, IsFed, IsCarried, Begins, Progresses, LeavesData};
+    ghost use Rattle.pr_core.specs.View.{owner_of, progress_of, KeepsOthers, Extends};
+    ghost use Rattle.pr_session.specs.Places.{block_from, data_in};
+    ghost use Rattle.pr_session.specs.Coming.{IsIdleIn};
     ghost use Rattle.pr_session.specs.Works.{bytes_of};
 
     /// Takes the memory: 524,320 bytes.
@@ -94,14 +99,41 @@ impl Work {
         requires idle { IsIdleIn core.old who nexus }
         requires sent { out_len ≤ DATA }
         ensures entry { Extends core.old core.new (entry who nexus
-            (Command lun cdb.now (take out_len (drop COMMAND_HEAD (bytes_of self.old))))
-            (out_of result (drop COMMAND_HEAD (bytes_of self.new))) ∷ []) }
-        ensures idle { IsIdleIn core.new who nexus }
-        ensures others { KeepsOthers who core.old core.new }
+            (Command lun cdb.now (take out_len (data_in (bytes_of self.old))))
+            (out_of result (data_in (bytes_of self.new))) ∷ []) }
+        ensures owner { owner_of core.new ≡ owner_of core.old }
+        ensures begins { Begins result (progress_of core.new nexus) }
+        ensures fed { IsFed result out_len }
         ensures proper { IsProper result }
-        ensures ended { IsEnded result }
+        ensures kept { LeavesData result (data_in (bytes_of self.old))
+            (data_in (bytes_of self.new)) }
+        ensures others { KeepsOthers who core.old core.new }
     {
         command_on(core, who, nexus, lun, cdb.bytes(), &mut self.bytes, out_len)
+    }
+
+    /// A step of a task, whose block stands at this place.
+    pub(crate) fn step<M: Medium, D: Disk>(
+        &mut self,
+        core: &mut Core<M, D>,
+        who: u64,
+        nexus: Nexus,
+        at: usize,
+    ) -> StepOut
+        requires owner { owner_of core.old nexus ≡ Some who }
+        requires task { is_some (progress_of core.old nexus) ≡ true }
+        requires within { at + BLOCK ≤ HELD }
+        ensures entry { (sent : List ℕ) → IsCarried result sent (block_from at (bytes_of self.old)) →
+            Extends core.old core.new (entry who nexus (Step sent)
+            (step_out result (block_from at (bytes_of self.new))) ∷ []) }
+        ensures owner { owner_of core.new ≡ owner_of core.old }
+        ensures progress { Progresses result (progress_of core.old nexus)
+            (progress_of core.new nexus) }
+        ensures before { take at (bytes_of self.new) ≡ take at (bytes_of self.old) }
+        ensures kept { LeavesBlock result (bytes_of self.old) (bytes_of self.new) }
+        ensures others { KeepsOthers who core.old core.new }
+    {
+        step_on(core, who, nexus, &mut self.bytes, at)
     }
 
     /// Writes a reply behind the room, around its data-in, which stands at its place, and says how
@@ -109,7 +141,7 @@ impl Work {
     pub(crate) fn write_reply(&mut self, lun: u16, tag: u32, reply: &Reply) -> usize
         requires { IsWritable reply.now }
         ensures reply { take result (drop ROOM (bytes_of self.new)) ≡ spelled (reply_frame reply.now
-            lun tag (take (data_in_of reply.now) (drop COMMAND_HEAD (bytes_of self.old)))) }
+            lun tag (take (data_in_of reply.now) (data_in (bytes_of self.old)))) }
         ensures bound { result ≤ 16 + DATA }
     {
         write_behind_room(&mut self.bytes, lun, tag, reply)
@@ -131,32 +163,6 @@ fn copy_at(work: &mut [u8], at: usize, piece: &[u8])
 {
     let (_, rest) = work.split_at_mut(at);
     copy_to_front(rest, piece);
-}
-
-/// A command whose data stands at its place in the slice.
-fn command_on<M: Medium, D: Disk>(
-    core: &mut Core<M, D>,
-    who: u64,
-    nexus: Nexus,
-    lun: u16,
-    cdb: &[u8],
-    work: &mut [u8],
-    out_len: usize,
-) -> CommandOut
-    requires idle { IsIdleIn core.old who nexus }
-    requires cdb { (0 < length cdb.now) × (length cdb.now ≤ 16) }
-    requires room { length work.old ≡ HELD }
-    requires sent { out_len ≤ DATA }
-    ensures entry { Extends core.old core.new (entry who nexus
-        (Command lun cdb.now (take out_len (drop COMMAND_HEAD work.old)))
-        (out_of result (drop COMMAND_HEAD work.new)) ∷ []) }
-    ensures idle { IsIdleIn core.new who nexus }
-    ensures others { KeepsOthers who core.old core.new }
-    ensures proper { IsProper result }
-    ensures ended { IsEnded result }
-{
-    let (_, data) = work.split_at_mut(COMMAND_HEAD);
-    core.command(who, nexus, lun, cdb, data, out_len)
 }
 
 /// Writes a reply behind the first four bytes of the slice.

@@ -1,5 +1,5 @@
 -- How tasks begin, and what a step of one does.
-use Rattle.std.specs.Prelude.{◌≡◌, ◌+◌, ℕ, true, false, Result, Ok, Err, nat_lt, if◌then◌else◌}
+use Rattle.std.specs.Prelude.{◌≡◌, ◌+◌, ℕ, List, true, false, Result, Ok, Err, nat_lt, if◌then◌else◌}
 use Rattle.pr_words.specs.declared.code.Code.{Code}
 use Rattle.pr_words.specs.declared.task.Way.{Way}
 use Rattle.pr_words.specs.declared.task.Way.TheVariants as ways
@@ -29,3 +29,11 @@ Steps t Aborted now = (t.aborted ≡ true) × (now ≡ t)
 abbrev pub answered : StepOut → Result (Unit {0}) Code
 answered (Fault code) = Err code
 answered _ = Ok tt
+
+-- a step leaves its block as it was, but where it was read, or the medium failed (this project's own)
+abbrev pub LeavesBlock : StepOut → List ℕ → List ℕ → Type 0
+LeavesBlock (Wrote lba) old new = new ≡ old
+LeavesBlock (Read lba) old new = Unit {0}
+LeavesBlock (Fault code) old new = Unit {0}
+LeavesBlock Done old new = new ≡ old
+LeavesBlock Aborted old new = new ≡ old

@@ -1,5 +1,5 @@
 -- Turns and records that were run with a core.
-use Rattle.std.proofs.Common.{◌≡◌, ℕ, suc, zero, ◌+◌, ◌-◌, ◌≤◌, ◌<◌, List, [], ◌++◌, length, take, drop, min, refl, sym, ap, ◌∙◌, subst, arith}
+use Rattle.std.proofs.Common.{◌≡◌, ℕ, suc, zero, ◌+◌, ◌-◌, ◌*◌, ◌≤◌, ◌<◌, ◌⊎◌, inl, inr, List, [], ◌++◌, length, take, drop, min, refl, sym, ap, ◌∙◌, subst, arith}
 use Rattle.std.proofs.lemmas.List.{take-append-drop, length-append, length-take, length-drop, drop-drop, drop_all, take_all}
 use Rattle.pr_io.specs.Streams.{Put, PutSome}
 use Rattle.pr_io.specs.Told.{ToldSink}
@@ -15,16 +15,13 @@ use Rattle.pr_io.specs.declared.outside.Disk as disks
 use Rattle.pr_core.specs.declared.target.Core.{Core}
 use Rattle.pr_core.specs.View.{Extends}
 use Rattle.pr_core.proofs.Entering.{extends_none, extends_append}
-use Rattle.pr_link.specs.declared.deframer.Deframer.{Deframer}
-use Rattle.pr_link.specs.Deframer.{held_of, place_of}
-use Rattle.pr_session.specs.declared.session.Session.{Session}
-use Rattle.pr_session.specs.Sessions.{lane_of, IsKept}
-use Rattle.pr_session.specs.Driving.{Agrees, Follows}
+use Rattle.pr_words.specs.declared.task.Way.{Way}
+use Rattle.pr_words.specs.declared.task.Way.TheVariants as ways
+use Rattle.pr_session.specs.Coming.{HasCome}
+use Rattle.pr_session.specs.Driving.{Agrees, Follows, LeavesLess, left_by, left_of}
 use Rattle.pr_session.specs.Feeding.{fed, fed_at}
 use Rattle.pr_tool.specs.Exits.{Ran}
-use Rattle.pr_session.specs.declared.state.State.{State}
-use Rattle.pr_session.specs.declared.state.State.TheVariants as state
-use Rattle.pr_session.specs.States.{phase_of}
+use Rattle.pr_tool.specs.Lanes.{Advances}
 
 -- a turn whose reply was written
 pub turn_ran : {M D : Type 0} {gm : media.Ghosts M} {gd : disks.Ghosts D} (who : ℕ) (old new : Core M D gm gd) (a b : ToldSink) (l m : Lane) (reply : List ℕ) → Follows who old l (turn l) new m reply → Put a.written b.written (output_of who reply) → Ran (TakesTurn who) a b old l new m
@@ -61,17 +58,38 @@ made_room : (m : Lane) (more : List ℕ) → MadeRoom m → 0 < length more → 
 made_room m more (Has_died l is) some = dead_fed m.phase m.bytes more is some
 made_room m more (Has_room l room) some = fed_room m.phase m.bytes more room some
 
--- after a turn of a full lane that lives there is room
+-- after a turn of a full lane that lives there is room, or less is left of its task
 pub turn_room : {M D : Type 0} {gm : media.Ghosts M} {gd : disks.Ghosts D} (who : ℕ) (old new : Core M D gm gd) (l m : Lane) (reply : List ℕ) → Follows who old l (turn l) new m reply
-    → length l.bytes ≡ HELD → AwaitsFrame l.phase → (more : List ℕ) → 0 < length more → 0 < fed m more
-turn_room who old new l m reply f full awaits more some = made_room m more (room_made who l m f.entries reply full awaits f.makes) some
+    → length l.bytes ≡ HELD → (l.phase ≡ Dead → ⊥) → LeavesLess l.phase m.phase → Advances l m
+turn_room who old new l m reply f full alive less = by l.phase refl
+  where
+    makes : AwaitsFrame l.phase → Advances l m
+    makes awaits = inl (λ more some. made_room m more (room_made who l m f.entries reply full awaits f.makes) some)
 
--- a session that lives looks at its frame
-pub awaits_frame : (p : State) → (phase_of p ≡ Dead → ⊥) → AwaitsFrame (phase_of p)
-awaits_frame state.Fresh alive = tt
-awaits_frame (state.In n) alive = tt
-awaits_frame (state.Dead r) alive = absurd (alive refl)
-awaits_frame (state.Asking a) alive = absurd (alive refl)
+    by : (p : Phase) → l.phase ≡ p → Advances l m
+    by Fresh is = makes (subst AwaitsFrame (sym is) tt)
+    by (In n) is = makes (subst AwaitsFrame (sym is) tt)
+    by (Busy n j) is = inr (subst (λ (p : Phase). left_of m.phase < left_of p) (sym is) (subst (λ (p : Phase). LeavesLess p m.phase) is less))
+    by Dead is = absurd (alive is)
+
+-- how much is left of a task, at the most
+pub left_bound : {M D : Type 0} {gm : media.Ghosts M} {gd : disks.Ghosts D} (p : Phase) (who : ℕ) (c : Core M D gm gd) → Agrees p who c → left_of p ≤ 524289
+left_bound Fresh who c agrees = omega arith
+left_bound (In n) who c agrees = omega arith
+left_bound Dead who c agrees = omega arith
+left_bound (Busy n j) who c agrees = by j.way agrees.come
+  where
+    by : (way : Way) → HasCome way agrees.progress (length j.bytes) → left_by way (length j.bytes) ≤ 524289
+    by ways.Read come = omega arith
+    by ways.Write come = omega (arith, come, agrees.few)
+
+-- what is still to be done of an arrival: its bytes that wait, and what is left of a task
+abbrev pub to_do : ℕ → ℕ → ℕ
+to_do waiting left = waiting * 524290 + left
+
+pub less_to_do : (waiting n left before : ℕ) → n ≤ waiting → left ≤ 524289 → (0 < n) ⊎ (left < before) → to_do (waiting - n) left < to_do waiting before
+less_to_do waiting n left before within bound (inl some) = omega (arith, within, bound, some)
+less_to_do waiting n left before within bound (inr less) = omega (arith, within, less)
 
 -- turns that make room for bytes that arrive
 
@@ -224,9 +242,3 @@ all_behind at bytes = take_all (length bytes - at) (drop at bytes) (omega (arith
 -- a connection that was closed, which writes nothing
 pub closed_ran : {M D : Type 0} {gm : media.Ghosts M} {gd : disks.Ghosts D} (who : ℕ) (old new : Core M D gm gd) (a : ToldSink) (l m : Lane) → Extends old new (closing who l.phase) → m ≡ fresh → Ran (Closes who) a a old l new m
 closed_ran who old new a l m made is = record { entries = closing who l.phase; output = []; acts = (refl, is); extends = made; puts = put_nothing a.written }
-
--- a session that was kept but for its reply stands for the same lane
-pub kept_lane : (before now : Session) → IsKept before now → lane_of now ≡ lane_of before
-kept_lane before now keeps =
-    ap (λ (t : State). lane (held_of now.deframer) (phase_of t) (place_of now.deframer)) keeps.0
-    ∙ ap (λ (d : Deframer). lane (held_of d) (phase_of before.state) (place_of d)) keeps.1

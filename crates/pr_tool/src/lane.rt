@@ -1,6 +1,6 @@
 //! The lanes of a schedule.
 
-ghost use Rattle.std.specs.Prelude.{◌≡◌, ◌≤◌, ◌<◌, [], take, length, IfOk, OnOk, OnErr, ℕ, List};
+ghost use Rattle.std.specs.Prelude.{◌≡◌, ◌≤◌, [], take, length, IfOk, OnOk, OnErr};
 ghost use Rattle.pr_words.specs.declared.limits.TheConstants.{HELD};
 ghost use Rattle.pr_io.specs.Causes.{HasCause};
 ghost use Rattle.pr_io.specs.Told.{told_sink};
@@ -27,7 +27,7 @@ pub struct Lane {
 }
 
 impl Lane {
-    ghost use Rattle.pr_tool.specs.Lanes.{lane_of};
+    ghost use Rattle.pr_tool.specs.Lanes.{lane_of, Advances};
     ghost use Rattle.pr_tool.specs.Exits.{Ran};
 
     /// A new connection. All memory is taken here, as a session does.
@@ -78,7 +78,7 @@ impl Lane {
         ensures others { KeepsOthers who core.old core.new }
         ensures room { length (lane_of self.old).bytes ≡ HELD →
             ((lane_of self.old).phase ≡ Dead → ⊥) →
-            (more : List ℕ) → 0 < length more → 0 < fed (lane_of self.new) more }
+            Advances (lane_of self.old) (lane_of self.new) }
         ensures cause { HasCause (K.faults sink.old) (K.faults sink.new) result }
     {
         drive(&mut self.session, core, who as u64);

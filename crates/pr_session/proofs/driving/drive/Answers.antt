@@ -1,14 +1,28 @@
 use Rattle.pr_model.specs.Lanes.{turn}
 use Rattle.pr_session.specs.Sessions.{lane_of}
-use Rattle.pr_session.proofs.Drivings.{drives, agrees_then}
+use Rattle.pr_session.proofs.Drivings.{ready_in, drives, agrees_then, answers_fit, onward, calm}
 use Rattle.pr_session.proofs.driving.drive.Goals as goal
+
+pub perform-out-requires : goal.perform-out-requires
+perform-out-requires g c =
+    ready_in c.args.who c.args.core.now (lane_of c.args.session.now) (turn (lane_of c.args.session.now)) _ _ c.want.new.self (rw c.in-Act.is at (c.want.ensures.begins c.requires.settled)) c.requires.agrees
 
 pub returns-in-Act-clause-follows : goal.returns-in-Act-clause-follows
 returns-in-Act-clause-follows g c =
-    drives c.args.who c.args.core.now c.perform-out.new.core (lane_of c.args.session.now) (turn (lane_of c.args.session.now)) c.in-Act.nexus c.in-Act.act c.want.new.self c.perform-out.new.self c.answer.new.self c.perform-out.result
-    (rw c.in-Act.is at (c.want.ensures.begins c.requires.settled)) c.perform-out.ensures.entry c.perform-out.ensures.keeps.0 c.perform-out.ensures.keeps.1 c.perform-out.ensures.fits c.answer.ensures.turned
+    drives c.args.who c.args.core.now c.perform-out.new.core (lane_of c.args.session.now) (turn (lane_of c.args.session.now)) _ _ c.want.new.self c.perform-out.new.self c.answer.new.self c.perform-out.result
+    (rw c.in-Act.is at (c.want.ensures.begins c.requires.settled)) c.perform-out.ensures.does c.perform-out.ensures.keeps.0 c.perform-out.ensures.keeps.1 c.answer.ensures.turned
 
 pub returns-in-Act-clause-agrees : goal.returns-in-Act-clause-agrees
 returns-in-Act-clause-agrees g c =
-    agrees_then c.args.who c.perform-out.new.core (lane_of c.args.session.now) (turn (lane_of c.args.session.now)) c.in-Act.nexus c.in-Act.act c.want.new.self c.perform-out.new.self c.answer.new.self c.perform-out.result
-    (rw c.in-Act.is at (c.want.ensures.begins c.requires.settled)) c.perform-out.ensures.keeps.0 c.perform-out.ensures.keeps.1 c.perform-out.ensures.fits c.perform-out.ensures.owns c.answer.ensures.turned
+    agrees_then c.args.who c.args.core.now c.perform-out.new.core (lane_of c.args.session.now) (turn (lane_of c.args.session.now)) _ _ c.want.new.self c.perform-out.new.self c.answer.new.self c.perform-out.result
+    (rw c.in-Act.is at (c.want.ensures.begins c.requires.settled)) c.perform-out.ensures.does c.perform-out.ensures.keeps.0 c.perform-out.ensures.keeps.1 c.answer.ensures.turned
+
+pub answer-requires : goal.answer-requires
+answer-requires g c =
+    answers_fit c.args.who c.args.core.now c.perform-out.new.core (lane_of c.args.session.now) (turn (lane_of c.args.session.now)) _ _ c.want.new.self c.perform-out.new.self c.perform-out.result
+    (rw c.in-Act.is at (c.want.ensures.begins c.requires.settled)) c.perform-out.ensures.does c.perform-out.ensures.keeps.0
+
+pub returns-in-Act-clause-onward : goal.returns-in-Act-clause-onward
+returns-in-Act-clause-onward g c =
+    onward c.args.who c.args.core.now c.perform-out.new.core (lane_of c.args.session.now) (turn (lane_of c.args.session.now)) _ _ c.want.new.self c.perform-out.new.self c.answer.new.self c.perform-out.result
+    (rw c.in-Act.is at (c.want.ensures.begins c.requires.settled)) c.perform-out.ensures.does c.perform-out.ensures.keeps.0 c.perform-out.ensures.keeps.1 c.answer.ensures.turned

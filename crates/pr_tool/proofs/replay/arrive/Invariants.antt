@@ -3,10 +3,10 @@ use Rattle.pr_model.specs.Limits.{HELD}
 use Rattle.pr_model.specs.Lanes.{Dead, arrived}
 use Rattle.pr_core.specs.View.{KeepsOthers}
 use Rattle.pr_io.specs.Told.{told_sink}
-use Rattle.pr_session.specs.Driving.{Agrees}
+use Rattle.pr_session.specs.Driving.{Agrees, left_of}
 use Rattle.pr_tool.specs.Exits.{Ran}
 use Rattle.pr_tool.specs.Lanes.{lane_of}
-use Rattle.pr_tool.proofs.Running.{Makes_room}
+use Rattle.pr_tool.proofs.Running.{Makes_room, to_do}
 use Rattle.pr_tool.proofs.replay.arrive.Given as goal
 
 abbrev pub invariant-loop-at : goal.invariant-loop-at
@@ -22,4 +22,4 @@ invariant-loop-at g l =
     }
 
 abbrev pub decreases-loop-at : goal.decreases-loop-at
-decreases-loop-at g l = length l.bytes - l.at
+decreases-loop-at g l = to_do (length l.bytes - l.at) (left_of (lane_of l.lane).phase)

@@ -22,4 +22,4 @@ pub returns-clause-passes : goal.returns-clause-passes
 returns-clause-passes c =
     unit_operation c.args.self.now c.check_attention.new.self c.args.nexus c.args.lun c.args.op c.check_operation.result
     (sym (c.is_elsewhere.ensures c.args.op c.operation-operation.ensures) ∙ c.if-is_elsewhere.false) (c.in_ok-check_attention.ensures.passes c.args.op c.operation-operation.ensures)
-    (subst (λ (o : Option OperationCode). PassesOperation o c.check_operation.result) c.operation-operation.ensures c.check_operation.ensures.passes)
+    (subst (λ (o : Option OperationCode). PassesOperation o c.check_operation.result) c.operation-operation.ensures c.check_operation.ensures)

@@ -4,8 +4,7 @@ use Rattle.pr_core.specs.declared.answers.CommandOut.{CommandOut}
 use Rattle.pr_core.specs.States.{progress_at}
 use Rattle.pr_core.specs.Outs.{out_of, Begins, IsFed}
 use Rattle.pr_core.proofs.Admitting.{enters_unit, enters_conflict, enters_cdb, enters_served}
-use Rattle.pr_core.proofs.Going.{ended_begins, ended_fed, begun_fed, taken_long, same_tasks, same_idle, tasks_more}
-use Rattle.pr_core.proofs.Serving.{ended_yet}
+use Rattle.pr_core.proofs.Going.{ended_begins, ended_fed, same_kept, begun_fed, taken_long, same_tasks, same_idle, tasks_more}
 use Rattle.pr_core.proofs.state.State.command.Goals as goal
 
 pub returns-in-Err-clause-enters : goal.returns-in-Err-clause-enters
@@ -68,5 +67,11 @@ pub returns-in-Ok-check_cdb-clause-fed : goal.returns-in-Ok-check_cdb-clause-fed
 returns-in-Ok-check_cdb-clause-fed c =
     begun_fed c.serve.result c.in-Ok-check_cdb.admitted (take c.args.out_len c.args.buf.now) c.args.out_len c.serve.ensures.begun c.in-Ok-check_cdb.ensures.3 (taken_long c.args.out_len c.args.buf.now c.requires.sent)
 
-pub returns-in-Ok-check_cdb-clause-ended : goal.returns-in-Ok-check_cdb-clause-ended
-returns-in-Ok-check_cdb-clause-ended c = ended_yet c.in-Ok.operation _ c.args.cdb.now _ c.in-Ok-check_cdb.admitted c.serve.result c.in-Ok.ensures.served c.in-Ok-check_cdb.ensures c.serve.ensures.begun
+pub returns-in-Err-clause-kept : goal.returns-in-Err-clause-kept
+returns-in-Err-clause-kept c = same_kept _ _
+
+pub returns-in-Err-check_cdb-clause-kept : goal.returns-in-Err-check_cdb-clause-kept
+returns-in-Err-check_cdb-clause-kept c = same_kept _ _
+
+pub returns-then-is_forbidden-clause-kept : goal.returns-then-is_forbidden-clause-kept
+returns-then-is_forbidden-clause-kept c = same_kept _ _

@@ -5,7 +5,7 @@ use Rattle.pr_core.specs.declared.answers.CommandOut.{CommandOut}
 use Rattle.pr_core.specs.Admits.{Serves}
 use Rattle.pr_core.specs.States.{progress_at}
 use Rattle.pr_core.specs.Outs.{Begins}
-use Rattle.pr_core.proofs.Going.{ended_begins, ended_begun, same_tasks, same_idle}
+use Rattle.pr_core.proofs.Going.{ended_begins, ended_begun, same_kept, same_tasks, same_idle}
 use Rattle.pr_core.proofs.Admitting.{serves_sense, serves_reserve}
 use Rattle.pr_core.proofs.state.State.serve.Goals as goal
 
@@ -36,3 +36,9 @@ returns-in-ReserveOut-clause-others c = same_tasks c.args.nexus c.args.self.now 
 
 pub returns-in-ReserveOut-clause-begun : goal.returns-in-ReserveOut-clause-begun
 returns-in-ReserveOut-clause-begun c = ended_begun c.reserve_out.result _ c.reserve_out.ensures.ended
+
+pub returns-in-Transfer-clause-kept : goal.returns-in-Transfer-clause-kept
+returns-in-Transfer-clause-kept c = same_kept c.begin.result c.args.buf.now
+
+pub returns-in-ReserveOut-clause-kept : goal.returns-in-ReserveOut-clause-kept
+returns-in-ReserveOut-clause-kept c = same_kept c.reserve_out.result c.args.buf.now

@@ -73,3 +73,8 @@ returns-clause-enters g c who sent owns carried w depicts holds =
       retasked_is self _ n (task_after c.step.result t.0) m.medium w _ (record { standing = refl; blocks = refl; seat = t.2; count = c.step.ensures.count; known = seat_there (f n) t.0 t.1 }) depicts m.count is,
       subst (λ (v : World). AreBlocksOf (g.M.Medium.contents c.step.new.medium) v.medium) (sym is) m.holds,
     )
+
+pub returns-clause-kept : goal.returns-clause-kept
+returns-clause-kept g c =
+    let t = the_task _ _ (task_in (seat_of c.args.self.now.seats c.args.nexus)) c.requires.task c.step.ensures.seat c.step.ensures.did in
+    t.3.kept

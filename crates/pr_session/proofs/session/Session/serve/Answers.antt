@@ -10,9 +10,9 @@ use Rattle.pr_link.specs.Streams.{frame_of}
 use Rattle.pr_link.specs.Deframer.{held_of, place_of}
 use Rattle.pr_link.specs.Requests.{request_of}
 use Rattle.pr_session.specs.declared.asked.Asked.TheVariants as what
-use Rattle.pr_session.specs.Acts.{Ends}
 use Rattle.pr_session.specs.Asking.{next_by}
-use Rattle.pr_session.specs.States.{phase_of, living}
+use Rattle.pr_session.specs.Places.{data_in}
+use Rattle.pr_session.specs.States.{phase_in}
 use Rattle.pr_session.specs.Works.{bytes_of}
 use Rattle.pr_session.specs.Sessions.{work_of}
 use Rattle.pr_session.specs.Turning.{Begins, IsAsked}
@@ -24,10 +24,10 @@ pub returns-in-Command : goal.returns-in-Command
 returns-in-Command c l same =
     let body : List ℕ = take c.args.head.body (work_of c.args.self.now) in
     let held : List ℕ = held_of c.args.self.now.deframer in
-    let from : phase_of (living c.args.logged_in) ≡ Fresh = ap (λ x. phase_of (living x)) c.in-None.is in
+    let from : phase_in c.args.logged_in ≡ Fresh = ap phase_in c.in-None.is in
     let read : request_of c.args.head.kind body ≡ c.read-request.result = sym (c.read-request.ensures ∙ ap (request_of c.args.head.kind) c.front.ensures) in
     let refused : Begins l (broken Fresh c.args.place 5) c.refuse.result c.refuse.new.self = c.refuse.ensures l (same ∙ from) in
-    let turn : asked (phase_of (living c.args.logged_in)) c.args.place (frame_of c.args.head body) held ≡ broken Fresh c.args.place 5 =
+    let turn : asked (phase_in c.args.logged_in) c.args.place (frame_of c.args.head body) held ≡ broken Fresh c.args.place 5 =
     elim c.in-Command.is [
       | inl (cdb, sent, is) ↦ serves _ Fresh c.args.place c.args.head body held (Command cdb sent) from c.requires.formed.2 (read ∙ is)
       | inr is ↦ serves _ Fresh c.args.place c.args.head body held Logout from c.requires.formed.2 (read ∙ is)
@@ -45,16 +45,16 @@ returns-in-Command-request c l same =
     let cdb : List ℕ = c.in-Command-request.cdb in
     let sent : ℕ = c.in-Command-request.data_out in
     let after = c.ask-in-Command-request in
-    let from : phase_of (living c.args.logged_in) ≡ In n = ap (λ x. phase_of (living x)) c.in-Some.is in
+    let from : phase_in c.args.logged_in ≡ In n = ap phase_in c.in-Some.is in
     let read : request_of c.args.head.kind body ≡ Command cdb sent = sym (c.read-request.ensures ∙ ap (request_of c.args.head.kind) c.front.ensures) ∙ c.in-Command-request.is in
     let counted : sent ≡ length (command_data body) = command_read c.args.head.kind body cdb sent read in
     let turn = serves _ (In n) c.args.place c.args.head body held (Command cdb sent) from c.requires.formed.2 read
     ∙ ap (λ (p : ℕ). Asks n (entries.Command lun cdb (command_data body)) (after_command n (frame_of c.args.head body) held p)) (sym c.requires.placed) in
     let within : c.args.head.body ≤ length work = omega (arith, c.requires.formed.0, c.args.self.now.work.room) in
     let short : sent ≤ 524288 = omega (arith, counted, length-drop 20 body, length-take c.args.head.body work, c.requires.formed.0) in
-    let act = ap (λ w. entries.Command lun cdb (take sent (drop 20 (bytes_of w)))) after.ensures.work ∙ ap (entries.Command lun cdb) (data_out work c.args.head.body sent within counted) in
-    let next = λ (out : entries.Out) (ends : Ends out). ap (λ d. next_by (what.Command c.args.head n cdb sent) (held_of d) (place_of d) out) after.ensures.stream ∙ command_next c.args.head body n cdb sent held place out ends in
-    let wanted = asks (In n) n (entries.Command lun cdb (command_data body)) (after_command n (frame_of c.args.head body) held place) after.result after.new.self (what.Command c.args.head n cdb sent) after.ensures.state after.ensures.want refl act short refl next in
+    let sent_is : take sent (data_in (work_of after.new.self)) ≡ command_data body = ap (λ w. take sent (data_in (bytes_of w))) after.ensures.work ∙ data_out work c.args.head.body sent within counted in
+    let next = λ (out : entries.Out). ap (λ d. next_by (what.Command c.args.head n cdb sent) (work_of after.new.self) (held_of d) (place_of d) out) after.ensures.stream ∙ command_next c.args.head body n cdb sent (work_of after.new.self) held place sent_is out in
+    let wanted = asks (In n) n (entries.Command lun cdb (command_data body)) (after_command n (frame_of c.args.head body) held place) after.result after.new.self (what.Command c.args.head n cdb sent) after.ensures.state after.ensures.want refl (ap (entries.Command lun cdb) sent_is) (refl, short) next in
     subst (λ (t : Turn). Begins l t after.result after.new.self) (sym turn) (subst (λ (p : Phase). IsAsked p n (entries.Command lun cdb (command_data body)) (after_command n (frame_of c.args.head body) held place) after.result after.new.self) (sym (same ∙ from)) wanted)
 
 pub returns-in-Login-request : goal.returns-in-Login-request
@@ -62,7 +62,7 @@ returns-in-Login-request c l same =
     let body : List ℕ = take c.args.head.body (work_of c.args.self.now) in
     let held : List ℕ = held_of c.args.self.now.deframer in
     let n : Nexus = c.in-Some.nexus in
-    let from : phase_of (living c.args.logged_in) ≡ In n = ap (λ x. phase_of (living x)) c.in-Some.is in
+    let from : phase_in c.args.logged_in ≡ In n = ap phase_in c.in-Some.is in
     let read : request_of c.args.head.kind body ≡ Login c.in-Login-request.version c.in-Login-request.nexus = sym (c.read-request.ensures ∙ ap (request_of c.args.head.kind) c.front.ensures) ∙ c.in-Login-request.is in
     let turn = serves _ (In n) c.args.place c.args.head body held (Login c.in-Login-request.version c.in-Login-request.nexus) from c.requires.formed.2 read in
     subst (λ (t : Turn). Begins l t c.refuse-in-Login-request.result c.refuse-in-Login-request.new.self) (sym turn) (c.refuse-in-Login-request.ensures l (same ∙ from))
