@@ -37,7 +37,9 @@ some_is x y is = cc
 keeps_agrees : {M D : Type 0} {gm : media.Ghosts M} {gd : disks.Ghosts D} (who other : ℕ) (old new : Core M D gm gd) (p : Phase) → KeepsOthers who old new → (other ≡ who → ⊥) → Agrees p other old → Agrees p other new
 keeps_agrees who other old new Fresh keeps apart agrees = tt
 keeps_agrees who other old new (In n) keeps apart agrees = let kept = keeps other n apart agrees.0 in (kept.0, kept.1 ∙ agrees.1)
-keeps_agrees who other old new (Busy n j) keeps apart agrees = let kept = keeps other n apart agrees.0 in (kept.0, kept.1 ∙ agrees.1)
+keeps_agrees who other old new (Busy n j) keeps apart agrees =
+    let kept = keeps other n apart agrees.owner in
+    record { owner = kept.0; progress = agrees.progress; runs = kept.1 ∙ agrees.runs; way = agrees.way; come = agrees.come; few = agrees.few }
 keeps_agrees who other old new Dead keeps apart agrees = tt
 
 -- a core that kept what the other nexuses have twice kept it
