@@ -11,8 +11,11 @@ use std::test::*;
 /// A WRITE(10) of 1,024 blocks, whose tag is 3, up to its data-out of 524,288 bytes.
 const WRITE: &str = "0008001C 02000000 00000003 0A000000 2A000000000000040000 000000000000";
 
-/// The reply that its operation code isn't served: 5/20/00.
-const UNSERVED: &str = "0000001E 82000000 00000003 02120000 700005000000000A00000000200000000000";
+/// The steps in which it is begun, moves its blocks and is answered.
+const STEPS: usize = 1_026;
+
+/// The reply GOOD.
+const GOOD: &str = "0000000C 82000000 00000003 00000000";
 
 /// Adds the bytes as arrivals of lane 0, each of so many but the last.
 fn add_arrivals(schedule: &mut Vec<u8>, bytes: &[u8], size: u16) -> Result<(), AllocError>
@@ -26,8 +29,16 @@ fn add_arrivals(schedule: &mut Vec<u8>, bytes: &[u8], size: u16) -> Result<(), A
     Ok(())
 }
 
+/// Adds so many steps of lane 0.
+fn add_steps(schedule: &mut Vec<u8>, count: usize) -> Result<(), AllocError> {
+    for _ in 0..count {
+        schedule.extend_from_slice(&[0, 1, 0, 0])?;
+    }
+    Ok(())
+}
+
 /// What is written where a nexus logs in, asks whether the unit is ready, and then sends the WRITE
-/// in pieces of so many bytes, but for its last ones, and takes a step.
+/// in pieces of so many bytes, but for its last ones, and takes steps.
 fn written(alloc: Global, size: u16, lacking: usize) -> Result<Vec<u8>, Fail>
     requires { 0 < size }
 {
@@ -44,7 +55,7 @@ fn written(alloc: Global, size: u16, lacking: usize) -> Result<Vec<u8>, Fail>
         ],
     )?;
     add_arrivals(&mut schedule, &frame, size)?;
-    schedule.extend_from_slice(&[0, 1, 0, 0])?;
+    add_steps(&mut schedule, STEPS)?;
     let mut sink = MemSink::new(alloc, Vec::new(alloc));
     let exit = replay(
         alloc,
@@ -63,7 +74,7 @@ fn the_longest_frame_is_one_command_however_it_is_cut(rt: HostRuntime) -> Result
     let whole = bytes_of(
         alloc,
         &[
-            "00000010", ACCEPTED, "00000022", POWER_ON, "00000022", UNSERVED,
+            "00000010", ACCEPTED, "00000022", POWER_ON, "00000010", GOOD,
         ],
     )?;
     let short = bytes_of(alloc, &["00000010", ACCEPTED, "00000022", POWER_ON])?;
