@@ -277,12 +277,12 @@ impl Seat {
             ≡ with_task (task_after result t) self.old) }
         ensures medium { Keeps M.Medium medium.old medium.new result }
     {
-        let Some(mut task) = self.task.take() else {
+        let Some(task) = &mut self.task else {
             unreachable!()
         };
         let out = task.step(medium, block);
-        if goes_on(out) {
-            self.task = Some(task);
+        if !goes_on(out) {
+            self.task = None;
         }
         out
     }

@@ -13,7 +13,6 @@ use Rattle.pr_model.specs.Lanes.{Lane, Phase, Turn, Turned, turned, lane, In, Bu
 use Rattle.pr_model.specs.Lanes as lanes
 use Rattle.pr_link.specs.declared.frame.Frame.{Frame}
 use Rattle.pr_link.specs.Streams.{frame_of}
-use Rattle.pr_link.specs.declared.deframer.Deframer.{Deframer}
 use Rattle.pr_link.specs.Deframer.{held_of, place_of}
 use Rattle.pr_link.specs.declared.request.Request.{Request}
 use Rattle.pr_link.specs.declared.request.Request.TheVariants as requests
@@ -23,7 +22,6 @@ use Rattle.pr_session.specs.declared.state.Rejection.{Rejection}
 use Rattle.pr_session.specs.declared.state.State.{State}
 use Rattle.pr_session.specs.declared.state.State.TheVariants.{Asking, Busy as Running}
 use Rattle.pr_session.specs.declared.session.Session.{Session}
-use Rattle.pr_session.specs.declared.work.Work.{Work}
 use Rattle.pr_session.specs.declared.job.Job.{Job}
 use Rattle.pr_session.specs.declared.asked.Asked.{Asked}
 use Rattle.pr_session.specs.declared.asked.Asked.TheVariants.{Login, Command, Step, Logout, Reject}
@@ -31,8 +29,7 @@ use Rattle.pr_session.specs.Places.{data_in}
 use Rattle.pr_session.specs.Jobs.{job_of, begun_by}
 use Rattle.pr_session.specs.Acts.{act_by}
 use Rattle.pr_session.specs.Asking.{nexus_in, want_of, next_by}
-use Rattle.pr_session.specs.States.{phase_of}
-use Rattle.pr_session.specs.Works.{bytes_of}
+use Rattle.pr_session.specs.States.{phase_of, asked_in}
 use Rattle.pr_session.specs.Sessions.{lane_of, work_of}
 use Rattle.pr_session.specs.Turning.{IsAsked, IsFor, Begins}
 
@@ -65,7 +62,7 @@ command_next head body n cdb sent work held place same (Restored value) = refl
 pub asks : (from : Phase) (n : Nexus) (a : entries.Act) (follows : Out → Turned) (w : Want) (s : Session) (what : Asked) → s.state ≡ Asking what → w ≡ want_of what → nexus_in what ≡ n → act_by what (work_of s) ≡ a → IsFor from what (work_of s)
     → ((out : Out) → next_by what (work_of s) (held_of s.deframer) (place_of s.deframer) out ≡ follows out) → IsAsked from n a follows w s
 asks from n a follows w s what state want nexus act is_for next =
-    record { what = what; state = state; want = want; nexus = nexus; act = act; phase = is_for; next = next }
+    record { what = what; state = ap asked_in state; want = want; nexus = nexus; act = act; phase = is_for; next = next }
 
 -- a frame that breaks a rule where a nexus is logged in
 pub refused : (l : Lane) (n : Nexus) (r : Rejection) (w : Want) (s : Session) (from : Phase) → l.phase ≡ from → from ≡ In n → s.state ≡ Asking (Reject n r) → w ≡ want_of (Reject n r) → Begins l (broken from r.place r.reason) w s
@@ -80,22 +77,14 @@ left l n head body w s in_n state want =
     (asks (In n) n entries.Logout (λ _. after_logout (frame_of head body)) w s (Logout head n) state want refl refl refl (λ out. refl))
 
 -- a step of a task that runs
-pub stepping : (old s : Session) (n : Nexus) (j : Job) (w : Want) → old.state ≡ Running n j → s.state ≡ Asking (Step n j) → w ≡ want_of (Step n j) → s.deframer ≡ old.deframer → s.work ≡ old.work → Begins (lane_of old) (turn (lane_of old)) w s
-stepping old s n j w runs state want stream work =
-    let held : List ℕ = held_of old.deframer in
-    let place : ℕ = place_of old.deframer in
-    let job = job_of j (work_of old) in
-    let busy : phase_of old.state (work_of old) ≡ Busy n job = ap (λ (t : State). phase_of t (work_of old)) runs in
+pub stepping : (s : Session) (n : Nexus) (j : Job) (w : Want) → s.state ≡ Running n j → w ≡ want_of (Step n j) → Begins (lane_of s) (turn (lane_of s)) w s
+stepping s n j w runs want =
+    let held : List ℕ = held_of s.deframer in
+    let place : ℕ = place_of s.deframer in
+    let job = job_of j (work_of s) in
+    let busy : phase_of s.state (work_of s) ≡ Busy n job = ap (λ (t : State). phase_of t (work_of s)) runs in
     let made : IsAsked (Busy n job) n (entries.Step (carried job)) (after_step n job held place) w s =
-    record {
-      what = Step n j;
-      state = state;
-      want = want;
-      nexus = refl;
-      act = ap (λ (b : Work). entries.Step (carried (job_of j (bytes_of b)))) work;
-      phase = (refl, ap (λ (b : Work). job_of j (bytes_of b)) (sym work));
-      next = λ out. ap (λ (b : Work). after_step n (job_of j (bytes_of b)) (held_of s.deframer) (place_of s.deframer) out) work ∙ ap (λ (d : Deframer). after_step n job (held_of d) (place_of d) out) stream;
-    } in
+    record { what = Step n j; state = ap asked_in runs; want = want; nexus = refl; act = refl; phase = (refl, refl); next = λ out. refl } in
     subst (λ (p : Phase). Begins (lane held p place) (turn (lane held p place)) w s) (sym busy) made
 
 -- what a frame asks for, by the request that it carries

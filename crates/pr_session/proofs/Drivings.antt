@@ -20,13 +20,12 @@ use Rattle.pr_session.specs.declared.act.Want.TheVariants as want
 use Rattle.pr_session.specs.declared.asked.Asked.{Asked}
 use Rattle.pr_session.specs.declared.asked.Asked.TheVariants.{Login, Command, Step, Logout, Reject}
 use Rattle.pr_session.specs.declared.state.State.{State}
-use Rattle.pr_session.specs.declared.state.State.TheVariants.{Asking}
 use Rattle.pr_session.specs.declared.session.Session.{Session}
 use Rattle.pr_session.specs.Jobs.{job_of}
 use Rattle.pr_session.specs.Acts.{act_by, outcome_by, Fits}
 use Rattle.pr_session.specs.Coming.{IsIdleIn, RunsTask, Agrees, IsReady}
 use Rattle.pr_session.specs.Asking.{nexus_in, act_in, next_by}
-use Rattle.pr_session.specs.States.{next_at}
+use Rattle.pr_session.specs.States.{asked_in, next_for}
 use Rattle.pr_session.specs.Sessions.{HasTurned, next_of, work_of, lane_of, reply_of}
 use Rattle.pr_session.specs.Turning.{IsFor, Begins, Awaits, AwaitsAt}
 use Rattle.pr_session.specs.Driving.{Does, Follows, IsReadyIn, GoesOn, LeavesLess, left_by, left_of}
@@ -75,15 +74,15 @@ ready_in who c l (Silent next) n a s b agrees = absurd (never_dead n a b.0)
 ready_in who c l (Asks m act next) n a s b agrees = (b.what, b.state, ready l.phase b.what (work_of s) c who b.phase agrees)
 
 -- what a session makes of an outcome, by what it asked for
-next_is : (s1 s2 : Session) (what : Asked) (result : Out) → s1.state ≡ Asking what → s2.state ≡ s1.state → s2.deframer ≡ s1.deframer
+next_is : (s1 s2 : Session) (what : Asked) (result : Out) → asked_in s1.state ≡ Some what → s2.state ≡ s1.state → s2.deframer ≡ s1.deframer
     → next_of s2 result ≡ next_by what (work_of s2) (held_of s1.deframer) (place_of s1.deframer) (outcome_by what result (work_of s2))
 next_is s1 s2 what result asked state stream =
-    ap (λ (t : State). next_at t (work_of s2) (held_of s2.deframer) (place_of s2.deframer) result) (state ∙ asked)
+    ap (λ (o : Option Asked). next_for o (work_of s2) (held_of s2.deframer) (place_of s2.deframer) result) (ap asked_in state ∙ asked)
     ∙ ap (λ (d : Deframer). next_by what (work_of s2) (held_of d) (place_of d) (outcome_by what result (work_of s2))) stream
 
 -- an act that was done and answered
 pub drives : {M D : Type 0} {gm : media.Ghosts M} {gd : disks.Ghosts D} (who : ℕ) (old new : Core M D gm gd) (l : Lane) (t : Turn) (n : Nexus) (a : Act) (s1 s2 s3 : Session) (result : Out)
-    → Begins l t (want.Act n a) s1 → ((what : Asked) → s1.state ≡ Asking what → Does what who old (work_of s1) result new (work_of s2)) → s2.state ≡ s1.state → s2.deframer ≡ s1.deframer
+    → Begins l t (want.Act n a) s1 → ((what : Asked) → asked_in s1.state ≡ Some what → Does what who old (work_of s1) result new (work_of s2)) → s2.state ≡ s1.state → s2.deframer ≡ s1.deframer
     → HasTurned s3 (next_of s2 result) → Follows who old l t new (lane_of s3) (reply_of s3)
 drives who old new l Idle n a s1 s2 s3 result b did state stream turned = absurd (never_awaits l.phase (front Target l.bytes) n a b.0)
 drives who old new l (Silent next) n a s1 s2 s3 result b did state stream turned = absurd (never_dead n a b.0)
@@ -101,7 +100,7 @@ drives who old new l (Asks m act next) n a s1 s2 s3 result b did state stream tu
 
 -- the core goes on with the session
 pub agrees_then : {M D : Type 0} {gm : media.Ghosts M} {gd : disks.Ghosts D} (who : ℕ) (old new : Core M D gm gd) (l : Lane) (t : Turn) (n : Nexus) (a : Act) (s1 s2 s3 : Session) (result : Out)
-    → Begins l t (want.Act n a) s1 → ((what : Asked) → s1.state ≡ Asking what → Does what who old (work_of s1) result new (work_of s2)) → s2.state ≡ s1.state → s2.deframer ≡ s1.deframer
+    → Begins l t (want.Act n a) s1 → ((what : Asked) → asked_in s1.state ≡ Some what → Does what who old (work_of s1) result new (work_of s2)) → s2.state ≡ s1.state → s2.deframer ≡ s1.deframer
     → HasTurned s3 (next_of s2 result) → Agrees (lane_of s3).phase who new
 agrees_then who old new l Idle n a s1 s2 s3 result b did state stream turned = absurd (never_awaits l.phase (front Target l.bytes) n a b.0)
 agrees_then who old new l (Silent next) n a s1 s2 s3 result b did state stream turned = absurd (never_dead n a b.0)
@@ -122,7 +121,7 @@ leaves (lanes.Busy m k) (Logout head n) work next is goes = absurd is
 leaves (lanes.Busy m k) (Reject n r) work next is goes = absurd is
 
 pub onward : {M D : Type 0} {gm : media.Ghosts M} {gd : disks.Ghosts D} (who : ℕ) (old new : Core M D gm gd) (l : Lane) (t : Turn) (n : Nexus) (a : Act) (s1 s2 s3 : Session) (result : Out)
-    → Begins l t (want.Act n a) s1 → ((what : Asked) → s1.state ≡ Asking what → Does what who old (work_of s1) result new (work_of s2)) → s2.state ≡ s1.state → s2.deframer ≡ s1.deframer
+    → Begins l t (want.Act n a) s1 → ((what : Asked) → asked_in s1.state ≡ Some what → Does what who old (work_of s1) result new (work_of s2)) → s2.state ≡ s1.state → s2.deframer ≡ s1.deframer
     → HasTurned s3 (next_of s2 result) → LeavesLess l.phase (lane_of s3).phase
 onward who old new l Idle n a s1 s2 s3 result b did state stream turned = absurd (never_awaits l.phase (front Target l.bytes) n a b.0)
 onward who old new l (Silent next) n a s1 s2 s3 result b did state stream turned = absurd (never_dead n a b.0)
@@ -143,17 +142,17 @@ calm l w s next b none = by l.phase b
 
 -- an outcome that a session is told is one that its act can have
 pub answers_fit : {M D : Type 0} {gm : media.Ghosts M} {gd : disks.Ghosts D} (who : ℕ) (old new : Core M D gm gd) (l : Lane) (t : Turn) (n : Nexus) (a : Act) (s1 s2 : Session) (result : Out)
-    → Begins l t (want.Act n a) s1 → ((what : Asked) → s1.state ≡ Asking what → Does what who old (work_of s1) result new (work_of s2)) → s2.state ≡ s1.state → (x : Asked) × (s2.state ≡ Asking x) × Fits x result
+    → Begins l t (want.Act n a) s1 → ((what : Asked) → asked_in s1.state ≡ Some what → Does what who old (work_of s1) result new (work_of s2)) → s2.state ≡ s1.state → (x : Asked) × (asked_in s2.state ≡ Some x) × Fits x result
 answers_fit who old new l Idle n a s1 s2 result b did state = absurd (never_awaits l.phase (front Target l.bytes) n a b.0)
 answers_fit who old new l (Silent next) n a s1 s2 result b did state = absurd (never_dead n a b.0)
-answers_fit who old new l (Asks m act next) n a s1 s2 result b did state = (b.what, state ∙ b.state, (did b.what b.state).fits)
+answers_fit who old new l (Asks m act next) n a s1 s2 result b did state = (b.what, ap asked_in state ∙ b.state, (did b.what b.state).fits)
 
 -- what is asked for, by the state
-same_asked : (s : State) (a b : Asked) → s ≡ Asking a → s ≡ Asking b → a ≡ b
+same_asked : (s : State) (a b : Asked) → asked_in s ≡ Some a → asked_in s ≡ Some b → a ≡ b
 same_asked s a b one other = cc
 
-pub ready_of : {M D : Type 0} {gm : media.Ghosts M} {gd : disks.Ghosts D} (s : Session) (c : Core M D gm gd) (who : ℕ) (what : Asked) → s.state ≡ Asking what → IsReadyIn s c who → IsReady what (work_of s) c who
+pub ready_of : {M D : Type 0} {gm : media.Ghosts M} {gd : disks.Ghosts D} (s : Session) (c : Core M D gm gd) (who : ℕ) (what : Asked) → asked_in s.state ≡ Some what → IsReadyIn s c who → IsReady what (work_of s) c who
 ready_of s c who what is r = subst (λ (x : Asked). IsReady x (work_of s) c who) (same_asked s.state r.0 what r.1 is) r.2
 
-pub does_as : {M D : Type 0} {gm : media.Ghosts M} {gd : disks.Ghosts D} (s : State) (what a : Asked) (who : ℕ) (old new : Core M D gm gd) (work left : List ℕ) (result : Out) → s ≡ Asking what → s ≡ Asking a → Does what who old work result new left → Does a who old work result new left
+pub does_as : {M D : Type 0} {gm : media.Ghosts M} {gd : disks.Ghosts D} (s : State) (what a : Asked) (who : ℕ) (old new : Core M D gm gd) (work left : List ℕ) (result : Out) → asked_in s ≡ Some what → asked_in s ≡ Some a → Does what who old work result new left → Does a who old work result new left
 does_as s what a who old new work left result one other does = subst (λ (x : Asked). Does x who old work result new left) (same_asked s what a one other) does

@@ -15,17 +15,21 @@ begun_bytes : (way : Way) (sent : ℕ) (work : List ℕ) → slice_range work CO
 begun_bytes ways.Read sent work = refl
 begun_bytes ways.Write sent work = let size : (20 + sent) - 20 ≡ sent = omega arith in ap (λ (n : ℕ). take n (drop 20 work)) size
 
-abbrev with_parts : Frame → Way → List ℕ → lanes.Job
-with_parts head way bytes = record { lun = head.lun; tag = head.tag; way = way; bytes = bytes }
+abbrev with_parts : ℕ → ℕ → Way → List ℕ → lanes.Job
+with_parts lun tag way bytes = record { lun = lun; tag = tag; way = way; bytes = bytes }
+
+same_parts : (j : Job) (lun tag : ℕ) (way : Way) (work bytes : List ℕ) → (j.lun ≡ lun) × (j.tag ≡ tag) × (j.way ≡ way) → slice_range work j.start j.stop ≡ bytes → job_of j work ≡ with_parts lun tag way bytes
+same_parts j lun tag way work bytes head same =
+    ap (λ (n : ℕ). with_parts n j.tag j.way (slice_range work j.start j.stop)) head.0
+    ∙ ap (λ (n : ℕ). with_parts lun n j.way (slice_range work j.start j.stop)) head.1
+    ∙ ap (λ (w : Way). with_parts lun tag w (slice_range work j.start j.stop)) head.2
+    ∙ ap (with_parts lun tag way) same
 
 -- the task of a command stands for the one that the command began
-pub begun_job : (j : Job) (head : Frame) (way : Way) (sent : ℕ) (work : List ℕ) → j.head ≡ head → j.way ≡ way → j.start ≡ COMMAND_HEAD → j.stop ≡ first_stop way sent → job_of j work ≡ begun_by head way (take sent (data_in work))
-begun_job j head way sent work is_head is_way starts stops =
-    ap (λ (f : Frame). with_parts f j.way (slice_range work j.start j.stop)) is_head
-    ∙ ap (λ (w : Way). with_parts head w (slice_range work j.start j.stop)) is_way
-    ∙ ap (λ (n : ℕ). with_parts head way (slice_range work n j.stop)) starts
-    ∙ ap (λ (n : ℕ). with_parts head way (slice_range work COMMAND_HEAD n)) stops
-    ∙ ap (with_parts head way) (begun_bytes way sent work)
+pub begun_job : (j : Job) (head : Frame) (way : Way) (sent : ℕ) (work : List ℕ) → (j.lun ≡ head.lun) × (j.tag ≡ head.tag) × (j.way ≡ way) → (j.start ≡ COMMAND_HEAD) × (j.stop ≡ first_stop way sent) → job_of j work ≡ begun_by head way (take sent (data_in work))
+begun_job j head way sent work is_head places =
+    same_parts j head.lun head.tag way work (lanes.first_bytes way (take sent (data_in work))) is_head
+    (ap (λ (n : ℕ). slice_range work n j.stop) places.0 ∙ ap (slice_range work COMMAND_HEAD) places.1 ∙ begun_bytes way sent work)
 
 -- where the next block of a task stands, while there is room
 pub place_of_write : (j : Job) → j.way ≡ ways.Write → j.start + BLOCK ≤ j.stop → j.stop ≤ COMMAND_HEAD + DATA → block_place j ≡ j.start
@@ -46,23 +50,18 @@ carries_block j work is some within size =
     ∙ ap (λ (at : ℕ). block_from at work) (sym (place_of_write j is some within))
 
 -- one block more was written, or read
-pub written_job : (j k : Job) (work : List ℕ) → k.head ≡ j.head → k.way ≡ j.way → k.start ≡ j.start + BLOCK → k.stop ≡ j.stop → j.start + BLOCK ≤ j.stop → job_of k work ≡ with_bytes (job_of j work) (drop BLOCK (job_of j work).bytes)
-written_job j k work is_head is_way starts stops some =
-    ap (λ (f : Frame). with_parts f k.way (slice_range work k.start k.stop)) is_head
-    ∙ ap (λ (w : Way). with_parts j.head w (slice_range work k.start k.stop)) is_way
-    ∙ ap (λ (n : ℕ). with_parts j.head j.way (slice_range work n k.stop)) starts
-    ∙ ap (λ (n : ℕ). with_parts j.head j.way (slice_range work (j.start + BLOCK) n)) stops
-    ∙ ap (with_parts j.head j.way) (sym (rest_between work j.start 512 j.stop some))
+pub written_job : (j k : Job) (work : List ℕ) → (k.lun ≡ j.lun) × (k.tag ≡ j.tag) × (k.way ≡ j.way) → (k.start ≡ j.start + BLOCK) × (k.stop ≡ j.stop) → j.start + BLOCK ≤ j.stop → job_of k work ≡ with_bytes (job_of j work) (drop BLOCK (job_of j work).bytes)
+written_job j k work head places some =
+    same_parts k j.lun j.tag j.way work (drop 512 (slice_range work j.start j.stop)) head
+    (ap (λ (n : ℕ). slice_range work n k.stop) places.0 ∙ ap (slice_range work (j.start + BLOCK)) places.1 ∙ sym (rest_between work j.start 512 j.stop some))
 
-pub read_job : (j k : Job) (work : List ℕ) → k.head ≡ j.head → k.way ≡ j.way → k.start ≡ j.start → k.stop ≡ j.stop + BLOCK → j.way ≡ ways.Read → j.stop + BLOCK ≤ COMMAND_HEAD + DATA → j.start ≤ j.stop → length work ≡ HELD
+pub read_job : (j k : Job) (work : List ℕ) → (k.lun ≡ j.lun) × (k.tag ≡ j.tag) × (k.way ≡ j.way) → (k.start ≡ j.start) × (k.stop ≡ j.stop + BLOCK) → j.way ≡ ways.Read → j.stop + BLOCK ≤ COMMAND_HEAD + DATA → length work ≡ HELD
     → job_of k work ≡ with_bytes (job_of j work) ((job_of j work).bytes ++ block_from (block_place j) work)
-read_job j k work is_head is_way starts stops is within order size =
-    ap (λ (f : Frame). with_parts f k.way (slice_range work k.start k.stop)) is_head
-    ∙ ap (λ (w : Way). with_parts j.head w (slice_range work k.start k.stop)) is_way
-    ∙ ap (λ (n : ℕ). with_parts j.head j.way (slice_range work n k.stop)) starts
-    ∙ ap (λ (n : ℕ). with_parts j.head j.way (slice_range work j.start n)) stops
-    ∙ ap (with_parts j.head j.way) (sym (more_between work j.start j.stop 512 order (omega (arith, within, size))))
-    ∙ ap (λ (at : ℕ). with_parts j.head j.way (slice_range work j.start j.stop ++ block_from at work)) (sym (place_of_read j is within))
+read_job j k work head places is within size =
+    same_parts k j.lun j.tag j.way work (slice_range work j.start j.stop ++ block_from (block_place j) work) head
+    (ap (λ (n : ℕ). slice_range work n k.stop) places.0 ∙ ap (slice_range work j.start) places.1
+    ∙ sym (more_between work j.start j.stop 512 j.order (omega (arith, within, size)))
+    ∙ ap (λ (at : ℕ). slice_range work j.start j.stop ++ block_from at work) (sym (place_of_read j is within)))
 
 -- the data-in of a task that is done
 pub data_in_is : (j : Job) (work : List ℕ) → (j.way ≡ ways.Read → j.start ≡ COMMAND_HEAD) → take (data_in_by j.way j.start j.stop) (data_in work) ≡ read_by j.way (job_of j work).bytes

@@ -15,15 +15,15 @@ use Rattle.pr_session.specs.Sessions.{HasTurned}
 use Rattle.pr_session.proofs.Jobs.{written_job, read_job}
 
 -- one more block was written
-pub wrote_turn : (n : Nexus) (j k : Job) (work held : List ℕ) (place : ℕ) (out : StepOut) (lba : ℕ) (s : Session) → out ≡ Wrote lba → FitsStep j (Wrote lba) → k.head ≡ j.head → k.way ≡ j.way → k.start ≡ j.start + BLOCK → k.stop ≡ j.stop
+pub wrote_turn : (n : Nexus) (j k : Job) (work held : List ℕ) (place : ℕ) (out : StepOut) (lba : ℕ) (s : Session) → out ≡ Wrote lba → FitsStep j (Wrote lba) → (k.lun ≡ j.lun) × (k.tag ≡ j.tag) × (k.way ≡ j.way) → (k.start ≡ j.start + BLOCK) × (k.stop ≡ j.stop)
     → HasTurned s (turned (lane held (lanes.Busy n (job_of k work)) place) []) → HasTurned s (after_step n (job_of j work) held place (step_out out (block_in j work)))
-wrote_turn n j k work held place out lba s is fits head way starts stops made =
+wrote_turn n j k work held place out lba s is fits head places made =
     subst (λ (o : StepOut). HasTurned s (after_step n (job_of j work) held place (step_out o (block_in j work)))) (sym is)
-    (subst (λ (x : lanes.Job). HasTurned s (turned (lane held (lanes.Busy n x) place) [])) (written_job j k work head way starts stops fits.1) made)
+    (subst (λ (x : lanes.Job). HasTurned s (turned (lane held (lanes.Busy n x) place) [])) (written_job j k work head places fits.1) made)
 
 -- one more block was read
-pub read_turn : (n : Nexus) (j k : Job) (work held : List ℕ) (place : ℕ) (out : StepOut) (lba : ℕ) (s : Session) → length work ≡ HELD → out ≡ Read lba → FitsStep j (Read lba) → k.head ≡ j.head → k.way ≡ j.way → k.start ≡ j.start → k.stop ≡ j.stop + BLOCK
+pub read_turn : (n : Nexus) (j k : Job) (work held : List ℕ) (place : ℕ) (out : StepOut) (lba : ℕ) (s : Session) → length work ≡ HELD → out ≡ Read lba → FitsStep j (Read lba) → (k.lun ≡ j.lun) × (k.tag ≡ j.tag) × (k.way ≡ j.way) → (k.start ≡ j.start) × (k.stop ≡ j.stop + BLOCK)
     → HasTurned s (turned (lane held (lanes.Busy n (job_of k work)) place) []) → HasTurned s (after_step n (job_of j work) held place (step_out out (block_in j work)))
-read_turn n j k work held place out lba s size is fits head way starts stops made =
+read_turn n j k work held place out lba s size is fits head places made =
     subst (λ (o : StepOut). HasTurned s (after_step n (job_of j work) held place (step_out o (block_in j work)))) (sym is)
-    (subst (λ (x : lanes.Job). HasTurned s (turned (lane held (lanes.Busy n x) place) [])) (read_job j k work head way starts stops fits.0 fits.1 j.order size) made)
+    (subst (λ (x : lanes.Job). HasTurned s (turned (lane held (lanes.Busy n x) place) [])) (read_job j k work head places fits.0 fits.1 size) made)

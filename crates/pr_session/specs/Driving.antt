@@ -11,13 +11,13 @@ use Rattle.pr_io.specs.declared.outside.Disk as disks
 use Rattle.pr_core.specs.declared.target.Core.{Core}
 use Rattle.pr_core.specs.View.{Extends}
 use Rattle.pr_session.specs.declared.act.Out.{Out}
-use Rattle.pr_session.specs.declared.state.State.TheVariants.{Asking}
 use Rattle.pr_session.specs.declared.session.Session.{Session}
 use Rattle.pr_session.specs.declared.asked.Asked.{Asked}
 use Rattle.pr_session.specs.declared.asked.Asked.TheVariants.{Step}
 use Rattle.pr_session.specs.Jobs.{job_of}
 use Rattle.pr_session.specs.Acts.{act_by, outcome_by, Fits}
 use Rattle.pr_session.specs.Asking.{nexus_in, next_by}
+use Rattle.pr_session.specs.States.{asked_in}
 use Rattle.pr_session.specs.Sessions.{work_of}
 use Rattle.pr_session.specs.Coming.{IsReady}
 
@@ -29,7 +29,7 @@ AllAgree lanes c = (place : ℕ) (l : Lane) → slice_get lanes place ≡ Some l
 
 -- a turn waits for the outcome of its act, for which the core has what it needs
 abbrev pub IsReadyIn : {M D : Type 0} {gm : media.Ghosts M} {gd : disks.Ghosts D} → Session → Core M D gm gd → ℕ → Type 0
-IsReadyIn s c who = (a : Asked) × (s.state ≡ Asking a) × IsReady a (work_of s) c who
+IsReadyIn s c who = (a : Asked) × (asked_in s.state ≡ Some a) × IsReady a (work_of s) c who
 
 -- how much of its lane's task is left at the most: its bytes, and its last step
 abbrev pub left_by : Way → ℕ → ℕ

@@ -13,7 +13,7 @@ use Rattle.pr_session.specs.Places.{block_from}
 
 -- a task with its bytes, which stand in the work buffer
 abbrev pub job_of : Job → List ℕ → lanes.Job
-job_of j work = record { lun = j.head.lun; tag = j.head.tag; way = j.way; bytes = slice_range work j.start j.stop }
+job_of j work = record { lun = j.lun; tag = j.tag; way = j.way; bytes = slice_range work j.start j.stop }
 
 -- the task of a command with this data-out
 abbrev pub begun_by : Frame → Way → List ℕ → lanes.Job

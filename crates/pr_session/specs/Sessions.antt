@@ -1,17 +1,16 @@
 -- The lane for which a session stands, and its reply. Owners cite these words and don't look into them.
-use Rattle.std.specs.Prelude.{◌≡◌, ℕ, ◌-◌, List, slice_range, Option}
+use Rattle.std.specs.Prelude.{◌≡◌, ℕ, ◌-◌, List, slice_range, Option, Some}
 use Rattle.pr_words.specs.declared.nexus.Nexus.{Nexus}
 use Rattle.pr_link.specs.Deframer.{held_of, place_of}
 use Rattle.pr_model.specs.Lanes.{Lane, Turned, lane}
 use Rattle.pr_session.specs.declared.act.Out.{Out}
 use Rattle.pr_session.specs.declared.state.Rejection.{Rejection}
-use Rattle.pr_session.specs.declared.state.State.TheVariants.{Asking}
+use Rattle.pr_session.specs.declared.state.State.TheVariants.{Busy}
 use Rattle.pr_session.specs.declared.session.Session.{Session}
 use Rattle.pr_session.specs.declared.asked.Asked.{Asked}
-use Rattle.pr_session.specs.declared.asked.Asked.TheVariants.{Step}
 use Rattle.pr_session.specs.declared.job.Job.{Job}
 use Rattle.pr_session.specs.Acts.{Fits}
-use Rattle.pr_session.specs.States.{IsSettledIn, phase_of, nexus_at, rejection_at, next_at}
+use Rattle.pr_session.specs.States.{IsSettledIn, phase_of, nexus_at, rejection_at, asked_in, next_at}
 use Rattle.pr_session.specs.declared.work.TheConstants.{ROOM}
 use Rattle.pr_session.specs.Works.{bytes_of}
 
@@ -51,11 +50,11 @@ pub record HasTurned (s : Session) (t : Turned) : Type 0 where
 
 -- its turn under way is a step of a task
 abbrev pub IsStepping : Session → Type 0
-IsStepping s = (n : Nexus) × (j : Job) × (s.state ≡ Asking (Step n j))
+IsStepping s = (n : Nexus) × (j : Job) × (s.state ≡ Busy n j)
 
 -- its turn under way has an outcome like this
 abbrev pub IsAnswer : Session → Out → Type 0
-IsAnswer s out = (a : Asked) × (s.state ≡ Asking a) × Fits a out
+IsAnswer s out = (a : Asked) × (asked_in s.state ≡ Some a) × Fits a out
 
 -- but for the reply all is as it was
 abbrev pub IsKept : Session → Session → Type 0

@@ -57,10 +57,19 @@ abbrev pub rejection_at : State → Option Rejection
 rejection_at (Dead r) = r
 rejection_at _ = None
 
+-- what the turn under way asks for: by a frame that came, or by the task that runs
+abbrev pub asked_in : State → Option Asked
+asked_in (Asking a) = Some a
+asked_in (Busy n j) = Some (asked.Step n j)
+asked_in _ = None
+
 -- what the turn under way makes of an outcome
+abbrev pub next_for : Option Asked → List ℕ → List ℕ → ℕ → acts.Out → Turned
+next_for (Some a) work held place out = next_by a work held place (outcome_by a out work)
+next_for None work held place out = turned dead []
+
 abbrev pub next_at : State → List ℕ → List ℕ → ℕ → acts.Out → Turned
-next_at (Asking a) work held place out = next_by a work held place (outcome_by a out work)
-next_at _ work held place out = turned dead []
+next_at s work held place out = next_for (asked_in s) work held place out
 
 -- the Reject with which the turn under way ends
 abbrev pub rejection_in : State → Option Rejection

@@ -1,5 +1,5 @@
 -- How a session takes the turns of its lane.
-use Rattle.std.specs.Prelude.{◌≡◌, ℕ, ◌≤◌, List, []}
+use Rattle.std.specs.Prelude.{◌≡◌, ℕ, ◌≤◌, List, [], Some}
 use Rattle.pr_words.specs.declared.nexus.Nexus.{Nexus}
 use Rattle.pr_words.specs.declared.nexus.Side.TheVariants.{Target}
 use Rattle.pr_grammar.specs.Frames.{Front, Lacking, Broken, Whole, front}
@@ -11,7 +11,7 @@ use Rattle.pr_session.specs.declared.act.Want.{Want}
 use Rattle.pr_session.specs.declared.act.Want.TheVariants as want
 use Rattle.pr_session.specs.declared.session.Session.{Session}
 use Rattle.pr_session.specs.declared.state.State.{State}
-use Rattle.pr_session.specs.declared.state.State.TheVariants.{Asking}
+use Rattle.pr_session.specs.declared.state.State.TheVariants.{Asking, Busy as Running}
 use Rattle.pr_session.specs.declared.asked.Asked.{Asked}
 use Rattle.pr_session.specs.declared.asked.Asked.TheVariants.{Login, Command, Step, Logout, Reject}
 use Rattle.pr_words.specs.declared.limits.TheConstants.{DATA}
@@ -19,6 +19,7 @@ use Rattle.pr_link.specs.Deframer.{held_of, place_of}
 use Rattle.pr_session.specs.Jobs.{job_of}
 use Rattle.pr_session.specs.Acts.{act_by}
 use Rattle.pr_session.specs.Asking.{nexus_in, want_of, next_by}
+use Rattle.pr_session.specs.States.{asked_in}
 use Rattle.pr_session.specs.Sessions.{HasTurned, work_of}
 
 -- what an idle lane wants: more bytes, or nothing any more
@@ -42,7 +43,7 @@ IsFor _ a work = ⊥
 -- the act of a turn is wanted: whatever its outcome is, the session makes the turn
 pub record IsAsked (from : Phase) (n : Nexus) (a : entries.Act) (follows : Out → Turned) (w : Want) (s : Session) : Type 0 where
   pub what : Asked
-  pub state : s.state ≡ Asking what
+  pub state : asked_in s.state ≡ Some what
   pub want : w ≡ want_of what
   pub nexus : nexus_in what ≡ n
   pub act : act_by what (work_of s) ≡ a
@@ -58,4 +59,5 @@ Begins l (Asks n a next) w s = IsAsked l.phase n a next w s
 -- asked again, a turn under way wants the same
 abbrev pub Continues : State → Want → Session → Session → Type 0
 Continues (Asking a) w old new = (w ≡ want_of a) × (new ≡ old)
+Continues (Running n j) w old new = (w ≡ want_of (Step n j)) × (new ≡ old)
 Continues _ w old new = Unit {0}

@@ -7,12 +7,13 @@ ghost use Rattle.pr_words.specs.declared.task.Way.TheVariants.{Read};
 use pr_link::Frame;
 use pr_words::{BLOCK, COMMAND_HEAD, DATA, HELD, Way};
 
-/// A READ or WRITE under way: the head of its request, which its reply repeats, and where its bytes
-/// stand in the work buffer. Those of a WRITE are still to be carried, and go from the front; those
+/// A READ or WRITE under way: the LUN and the tag of its request, which its reply repeats, and where
+/// its bytes stand in the work buffer. Those of a WRITE are still to be carried, and go from the front; those
 /// of a READ have come, and grow at the end.
 #[derive(Clone, Copy, Debug)]
 pub(crate) struct Job {
-    pub(crate) head: Frame,
+    pub(crate) lun: u16,
+    pub(crate) tag: u32,
     way: Way,
     start: usize,
     stop: usize,
@@ -25,10 +26,10 @@ pub(crate) struct Job {
 impl Job {
     ghost use Rattle.pr_session.specs.Jobs.{first_stop, block_place, data_in_of};
 
-    /// The task of a command that came with so many bytes of data-out.
+    /// The task of a command that came with so many bytes of data-out, in a frame with this head.
     pub(crate) fn begin(head: Frame, way: Way, sent: usize) -> Job
         requires { sent ≤ DATA }
-        ensures head { (result.head ≡ head) × (result.way ≡ way) }
+        ensures head { (result.lun ≡ head.lun) × (result.tag ≡ head.tag) × (result.way ≡ way) }
         ensures bytes { (result.start ≡ COMMAND_HEAD) × (result.stop ≡ first_stop way sent) }
     {
         let stop = match way {
@@ -36,7 +37,8 @@ impl Job {
             Way::Write => COMMAND_HEAD + sent,
         };
         Job {
-            head,
+            lun: head.lun,
+            tag: head.tag,
             way,
             start: COMMAND_HEAD,
             stop,
@@ -59,11 +61,12 @@ impl Job {
     pub(crate) fn after_write(self) -> Job
         requires way { self.way ≡ Way.Write }
         requires some { self.start + BLOCK ≤ self.stop }
-        ensures head { (result.head ≡ self.head) × (result.way ≡ self.way) }
+        ensures head { (result.lun ≡ self.lun) × (result.tag ≡ self.tag) × (result.way ≡ self.way) }
         ensures bytes { (result.start ≡ self.start + BLOCK) × (result.stop ≡ self.stop) }
     {
         Job {
-            head: self.head,
+            lun: self.lun,
+            tag: self.tag,
             way: self.way,
             start: self.start + BLOCK,
             stop: self.stop,
@@ -73,11 +76,12 @@ impl Job {
     /// One block of it was read.
     pub(crate) fn after_read(self) -> Job
         requires { self.stop + BLOCK ≤ COMMAND_HEAD + DATA }
-        ensures head { (result.head ≡ self.head) × (result.way ≡ self.way) }
+        ensures head { (result.lun ≡ self.lun) × (result.tag ≡ self.tag) × (result.way ≡ self.way) }
         ensures bytes { (result.start ≡ self.start) × (result.stop ≡ self.stop + BLOCK) }
     {
         Job {
-            head: self.head,
+            lun: self.lun,
+            tag: self.tag,
             way: self.way,
             start: self.start,
             stop: self.stop + BLOCK,

@@ -1,6 +1,6 @@
 //! The session of one connection.
 
-ghost use Rattle.std.specs.Prelude.{◌≡◌, ◌+◌, ◌-◌, ◌≤◌, ◌<◌, ◌++◌, ◌∷◌, [], Some, None, true, false, take, drop, length, slice_range, IfOk, MatchBool, ℕ, List};
+ghost use Rattle.std.specs.Prelude.{◌≡◌, ◌+◌, ◌-◌, ◌≤◌, ◌<◌, ◌++◌, ◌∷◌, [], Some, None, is_some, true, false, take, drop, length, slice_range, IfOk, MatchBool, ℕ, List};
 ghost use Rattle.pr_grammar.specs.Bodies.{login_reply, command_reply};
 ghost use Rattle.pr_grammar.specs.Frames.{front, frame, spelled};
 ghost use Rattle.pr_words.specs.declared.nexus.Nexus.{Nexus};
@@ -17,7 +17,7 @@ ghost use Rattle.pr_link.specs.Streams as streams;
 ghost use Rattle.pr_link.specs.Deframer.{stream_of, held_of, place_of};
 ghost use Rattle.pr_session.specs.Streams.{IsIntact};
 ghost use Rattle.pr_session.specs.Feeding.{fed};
-ghost use Rattle.pr_session.specs.States.{IsSettledIn, is_busy, phase_of, phase_in, living, rejection_at, rejection_in};
+ghost use Rattle.pr_session.specs.States.{IsSettledIn, is_busy, phase_of, phase_in, living, rejection_at, rejection_in, asked_in};
 ghost use Rattle.pr_session.specs.Jobs.{job_of, block_in, FitsStep};
 ghost use Rattle.pr_session.specs.Places.{data_in};
 ghost use Rattle.pr_session.specs.Asking.{next_by};
@@ -25,7 +25,7 @@ ghost use Rattle.pr_session.specs.declared.asked.Asked.{Asked};
 ghost use Rattle.pr_session.specs.declared.asked.Asked.TheVariants as waits;
 ghost use Rattle.pr_session.specs.declared.state.State.TheVariants as states;
 
-use crate::act::{Out, Want};
+use crate::act::{Act, Out, Want};
 use crate::asked::Asked;
 use crate::job::Job;
 use crate::state::{Rejection, State};
@@ -203,7 +203,7 @@ impl Session {
             State::Dead(_) => Want::Dead,
             State::Fresh => self.begin(None),
             State::In(nexus) => self.begin(Some(nexus)),
-            State::Busy(nexus, job) => self.ask(Asked::Step { nexus, job }),
+            State::Busy(nexus, _) => Want::Act(nexus, Act::Step),
         }
     }
 
@@ -289,14 +289,26 @@ impl Session {
         self.work.range(COMMAND_HEAD, HELD)
     }
 
+    /// What its turn under way asks for: by a frame that came, or by the task that runs.
+    fn asked(&self) -> Asked
+        requires { is_some (asked_in self.now.state) ≡ true }
+        ensures { asked_in self.now.state ≡ Some result }
+    {
+        match self.state {
+            State::Asking(asked) => asked,
+            State::Busy(nexus, job) => Asked::Step { nexus, job },
+            State::Fresh | State::In(_) | State::Dead(_) => unreachable!(),
+        }
+    }
+
     /// The block of the step last wanted, of 512 bytes: those that it carries first, and once it was
     /// done those that it read.
     pub fn block(&self) -> &[u8]
         requires { IsStepping self.now }
-        ensures { (nexus : Nexus) (job : Job) → self.now.state ≡ states.Asking (waits.Step nexus job)
+        ensures { (nexus : Nexus) (job : Job) → self.now.state ≡ states.Busy nexus job
             → result.now ≡ block_in job (work_of self.now) }
     {
-        let State::Asking(Asked::Step { job, .. }) = self.state else {
+        let State::Busy(_, job) = self.state else {
             unreachable!();
         };
         let at = job.block_place();
@@ -307,15 +319,12 @@ impl Session {
     /// work buffer, and leaves its data-in there, and a step moves its block from there or to there.
     pub fn perform<M: Medium, D: Disk>(&mut self, core: &mut Core<M, D>, who: u64) -> Out
         requires { IsReadyIn self.old core.old who }
-        ensures does { (a : Asked) → self.old.state ≡ states.Asking a → Does a who core.old
+        ensures does { (a : Asked) → asked_in self.old.state ≡ Some a → Does a who core.old
             (work_of self.old) result core.new (work_of self.new) }
         ensures keeps { (self.new.state ≡ self.old.state) × (self.new.deframer ≡ self.old.deframer) }
         ensures others { KeepsOthers who core.old core.new }
     {
-        let State::Asking(asked) = self.state else {
-            unreachable!();
-        };
-        match asked {
+        match self.asked() {
             Asked::Login { nexus, version, .. } => Out::Login(core.login(who, version, nexus)),
             Asked::Command {
                 head,
@@ -339,10 +348,7 @@ impl Session {
         ensures turned { HasTurned self.new (next_of self.old out.now) }
         ensures rejection { rejection_of self.new ≡ rejection_in self.old.state }
     {
-        let State::Asking(asked) = self.state else {
-            unreachable!();
-        };
-        match (asked, *out) {
+        match (self.asked(), *out) {
             (Asked::Login { head, nexus, .. }, Out::Login(code)) => {
                 self.answer_login(head, nexus, code);
             }
@@ -397,7 +403,7 @@ impl Session {
     {
         match out {
             CommandOut::Ended { status, sense, len } => {
-                self.end(nexus, head, status, sense, len);
+                self.end(nexus, head.lun, head.tag, status, sense, len);
             }
             CommandOut::Started { way, .. } => self.go_on(nexus, Job::begin(head, way, out_len)),
         }
@@ -414,11 +420,13 @@ impl Session {
         match out {
             StepOut::Wrote { .. } => self.go_on(nexus, job.after_write()),
             StepOut::Read { .. } => self.go_on(nexus, job.after_read()),
-            StepOut::Done => self.end(nexus, job.head, Status::Good, None, job.data_in()),
-            StepOut::Aborted => self.end(nexus, job.head, Status::TaskAborted, None, 0),
+            StepOut::Done => {
+                self.end(nexus, job.lun, job.tag, Status::Good, None, job.data_in());
+            }
+            StepOut::Aborted => self.end(nexus, job.lun, job.tag, Status::TaskAborted, None, 0),
             StepOut::Fault(code) => {
                 let sense = Sense { code, info: None };
-                self.end(nexus, job.head, Status::CheckCondition, Some(sense), 0);
+                self.end(nexus, job.lun, job.tag, Status::CheckCondition, Some(sense), 0);
             }
         }
     }
@@ -434,24 +442,25 @@ impl Session {
         self.stop = ROOM;
     }
 
-    /// The command with this head has ended, with so many bytes of data-in, and is answered.
+    /// The command with this LUN and tag has ended, with so many bytes of data-in, and is answered.
     fn end(
         &mut self,
         nexus: Nexus,
-        head: Frame,
+        lun: u16,
+        tag: u32,
         status: Status,
         sense: Option<Sense>,
         len: usize,
     )
         requires { replies.IsAnswer status sense len }
         ensures turned { HasTurned self.new (turned (lane (held_of self.old.deframer)
-            (lanes.In nexus) (place_of self.old.deframer)) (spelled (frame 0x82 head.lun head.tag
+            (lanes.In nexus) (place_of self.old.deframer)) (spelled (frame 0x82 lun tag
             (command_reply status sense (take len (data_in (work_of self.old))))))) }
         ensures rejection { rejection_of self.new ≡ None }
     {
         self.state = State::In(nexus);
         let reply = Reply::of_command(status, sense, len);
-        self.reply_with(head.lun, head.tag, &reply);
+        self.reply_with(lun, tag, &reply);
     }
 
     /// A Logout is answered, and the session ends.

@@ -1,9 +1,9 @@
-use Rattle.std.proofs.Common.{◌≡◌, ◌≤◌, ℕ, List, Option, length, drop, ap, ◌∙◌, arith}
+use Rattle.std.proofs.Common.{◌≡◌, ◌≤◌, ℕ, List, Option, Some, length, drop, ap, ◌∙◌, arith}
 use Rattle.std.proofs.lemmas.List.{length-drop}
 use Rattle.pr_words.specs.declared.nexus.Nexus.{Nexus}
 use Rattle.pr_session.specs.declared.asked.Asked.{Asked}
 use Rattle.pr_session.specs.declared.asked.Asked.TheVariants.{Command, Step}
-use Rattle.pr_session.specs.declared.state.State.TheVariants.{Asking}
+use Rattle.pr_session.specs.States.{asked_in}
 use Rattle.pr_session.specs.Works.{bytes_of}
 use Rattle.pr_session.specs.Sessions.{work_of}
 use Rattle.pr_session.proofs.Doing.{does_command, does_step}
@@ -14,7 +14,7 @@ pub returns-in-Command-clause-does : goal.returns-in-Command-clause-does
 returns-in-Command-clause-does g c a is =
     let n : Nexus = c.in-Command.nexus in
     let what : Asked = Command c.in-Command.head n c.in-Command.cdb c.in-Command.out_len in
-    let asked : c.args.self.now.state ≡ Asking what = c.in-Asking.is ∙ ap Asking c.in-Command.is in
+    let asked : asked_in c.args.self.now.state ≡ Some what = c.asked.ensures ∙ ap Some c.in-Command.is in
     let ready = ready_of c.args.self.now c.args.core.now c.args.who what asked c.requires in
     let left : List ℕ = bytes_of c.command.new.self in
     let within : c.in-Command.out_len ≤ length (drop 20 left) = omega (arith, length-drop 20 left, c.command.new.self.room, ready.1) in
@@ -26,7 +26,7 @@ pub returns-in-Step-clause-does : goal.returns-in-Step-clause-does
 returns-in-Step-clause-does g c a is =
     let n : Nexus = c.in-Step.nexus in
     let what : Asked = Step n c.in-Step.job in
-    let asked : c.args.self.now.state ≡ Asking what = c.in-Asking.is ∙ ap Asking c.in-Step.is in
+    let asked : asked_in c.args.self.now.state ≡ Some what = c.asked.ensures ∙ ap Some c.in-Step.is in
     let ready = ready_of c.args.self.now c.args.core.now c.args.who what asked c.requires in
     let left : List ℕ = bytes_of c.step.new.self in
     let owns = ap (λ (o : Nexus → Option ℕ). o n) c.step.ensures.owner ∙ ready.owner in
