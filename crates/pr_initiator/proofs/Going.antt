@@ -1,5 +1,5 @@
 -- A connection that goes on, call by call.
-use Rattle.std.proofs.Common.{◌≡◌, ◌≤◌, ◌<◌, ℕ, zero, suc, ◌+◌, ◌-◌, Bool, true, false, ◌==◌, ◌&&◌, not, List, ◌++◌, [], length, take, drop, Option, Some, None, refl, sym, ap, ◌∙◌, append_assoc, arith, subst, if◌then◌else◌}
+use Rattle.std.proofs.Common.{◌≡◌, ◌≤◌, ◌<◌, ℕ, ◌+◌, ◌-◌, Bool, true, false, ◌==◌, List, ◌++◌, [], length, take, drop, Option, Some, None, refl, sym, ap, ◌∙◌, append_assoc, arith, subst}
 use Rattle.std.specs.Prelude.{Result, Ok, Err, OnOk, OnErr}
 use Rattle.std.proofs.lemmas.Bool.{eqb-true, eq-eqb, ne_eqb}
 use Rattle.std.proofs.lemmas.List.{append-nil}
@@ -92,6 +92,6 @@ pub sent_whole : (r : Result Unit Failed) (a b c : Option Talk) (x y whole : Lis
 sent_whole (Ok u) a b c x y whole p q is = subst (λ (w : List ℕ). Goes a c w []) is (both_sent a b c x y p q)
 sent_whole (Err e) a b c x y whole p q is = tt
 
-pub sent_part : (r : Result Unit Failed) (a b c : Option Talk) (x y : List ℕ) → Sends a b (Ok tt) x → Sends b c r y → OnErr r ((said : List ℕ) × Goes a c said [])
-sent_part (Ok u) a b c x y p q = tt
-sent_part (Err e) a b c x y p q = (x, subst (λ (t : Option Talk). Goes a t x []) (sym q) (sent a b x p))
+pub sent_part : (r : Result Unit Failed) (a b c : Option Talk) (x y whole : List ℕ) → Sends a b (Ok tt) x → Sends b c r y → x ++ y ≡ whole → OnErr r ((said : List ℕ) × (unsaid : List ℕ) × (whole ≡ said ++ unsaid) × Goes a c said [])
+sent_part (Ok u) a b c x y whole p q is = tt
+sent_part (Err e) a b c x y whole p q is = (x, y, sym is, subst (λ (t : Option Talk). Goes a t x []) (sym q) (sent a b x p))

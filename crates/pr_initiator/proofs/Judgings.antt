@@ -1,5 +1,6 @@
 -- The faults for which a frame that was heard is the cause.
-use Rattle.std.proofs.Common.{◌≡◌, ℕ, Bool, true, false, cond, ◌==◌, ◌&&◌, List, [], Option, refl, sym, ap, ◌∙◌, subst, inl, inr}
+use Rattle.std.proofs.Common.{◌≡◌, ℕ, Bool, true, false, cond, ◌==◌, ◌&&◌, List, [], Option, sym, subst, inr}
+use Rattle.std.proofs.lemmas.List.{append-nil}
 use Rattle.std.specs.Prelude.{Result, Ok, Err}
 use Rattle.pr_words.specs.declared.nexus.Side.TheVariants.{Initiator}
 use Rattle.pr_grammar.specs.declared.sense.SenseFault.{SenseFault}
@@ -43,7 +44,7 @@ is_judged asked tag place f e is = judged_by asked tag place f (reply_of f.kind 
 
 pub fails : (asked tag place : ℕ) (before now : Option Talk) (sent heard : List ℕ) (f : Frame) (e : LinkFault) → Goes before now sent heard → front Initiator heard ≡ Whole f [] → judged asked tag place f ≡ Err e
     → FailsToAsk asked tag place before now sent e
-fails asked tag place before now sent heard f fault.Down goes whole is = (sent, heard, goes)
+fails asked tag place before now sent heard f fault.Down goes whole is = (sent, [], heard, sym (append-nil sent), goes)
 fails asked tag place before now sent heard f (fault.Ended at) goes whole is = absurd (is_judged asked tag place f (fault.Ended at) is)
 fails asked tag place before now sent heard f (fault.BadReply at reason) goes whole is = (heard, goes, inr (f, whole, is))
 fails asked tag place before now sent heard f (fault.Rejected at reason) goes whole is = (heard, goes, f, whole, is)

@@ -1,5 +1,5 @@
 -- What a request is answered (this project's own).
-use Rattle.std.specs.Prelude.{◌≡◌, ◌⊎◌, ℕ, List, [], take, Option, Result, Ok, Err}
+use Rattle.std.specs.Prelude.{◌≡◌, ◌⊎◌, ℕ, List, [], ◌++◌, take, Option, Result, Ok, Err}
 use Rattle.pr_words.specs.declared.nexus.Side.TheVariants.{Initiator}
 use Rattle.pr_grammar.specs.Frames.{Frame, front, Lacking, Broken, Whole}
 use Rattle.pr_io.specs.Talks.{Talk}
@@ -15,10 +15,10 @@ IsBadReply asked tag place heard at reason =
     ((front Initiator heard ≡ Broken reason) × (at ≡ place))
     ⊎ ((f : Frame) × (front Initiator heard ≡ Whole f []) × (judged asked tag place f ≡ Err (BadReply at reason)))
 
--- no answer counts: the wire failed; or the connection ended before a reply was whole; or just what was heard after the
+-- no answer counts: the wire failed, maybe after a front of the request alone was sent; or the connection ended before a reply was whole; or just what was heard after the
 -- request was sent is the cause
 abbrev pub FailsToAsk : ℕ → ℕ → ℕ → Option Talk → Option Talk → List ℕ → LinkFault → Type 0
-FailsToAsk asked tag place before now sent Down = (said : List ℕ) × (heard : List ℕ) × Goes before now said heard
+FailsToAsk asked tag place before now sent Down = (said : List ℕ) × (unsaid : List ℕ) × (heard : List ℕ) × (sent ≡ said ++ unsaid) × Goes before now said heard
 FailsToAsk asked tag place before now sent (Ended at) =
     (heard : List ℕ) × (lacks : ℕ) × Goes before now sent heard × (front Initiator heard ≡ Lacking lacks) × WasEnded now × (at ≡ place)
 FailsToAsk asked tag place before now sent (BadReply at reason) =

@@ -1,9 +1,7 @@
 -- What comes of a request that is sent on a wire (this project's own).
-use Rattle.std.specs.Prelude.{◌≡◌, ℕ, ◌+◌, ◌≤◌, ◌==◌, ◌&&◌, Bool, true, false, List, [], take, slice_index, Option, Result, Ok, Err, if◌then◌else◌}
-use Rattle.pr_words.specs.Fields.{number64_at}
+use Rattle.std.specs.Prelude.{◌≡◌, ℕ, ◌+◌, ◌≤◌, true, List, [], ◌++◌, take, Option, Result, Ok, Err}
 use Rattle.pr_words.specs.declared.limits.TheConstants.{BODY}
 use Rattle.pr_words.specs.declared.nexus.Side.TheVariants.{Initiator}
-use Rattle.pr_grammar.specs.Frames as grammar
 use Rattle.pr_grammar.specs.Frames.{front, is_body, Lacking, Broken, Whole}
 use Rattle.pr_io.specs.Talks.{Talk}
 use Rattle.pr_link.specs.declared.frame.Frame.{Frame}
@@ -13,9 +11,9 @@ use Rattle.pr_initiator.specs.declared.receiving.Unheard.{Unheard}
 use Rattle.pr_initiator.specs.declared.receiving.Unheard.TheVariants.{Down, Ended, Bad}
 use Rattle.pr_initiator.specs.Goings.{Goes, WasEnded}
 
--- the request was sent, and no reply was heard; where the wire failed, that may be before all was sent
+-- the request was sent, and no reply was heard; where the wire failed, that may be after a front of it
 abbrev pub SpeaksInVain : Option Talk → Option Talk → List ℕ → Unheard → Type 0
-SpeaksInVain before now sent Down = (said : List ℕ) × (heard : List ℕ) × Goes before now said heard
+SpeaksInVain before now sent Down = (said : List ℕ) × (unsaid : List ℕ) × (heard : List ℕ) × (sent ≡ said ++ unsaid) × Goes before now said heard
 SpeaksInVain before now sent Ended = (heard : List ℕ) × (lacks : ℕ) × Goes before now sent heard × (front Initiator heard ≡ Lacking lacks) × WasEnded now
 SpeaksInVain before now sent (Bad rule) = (heard : List ℕ) × Goes before now sent heard × (front Initiator heard ≡ Broken rule)
 

@@ -27,6 +27,11 @@ answer_by place (Ok (reply.Other n)) = Ok (record { status = n; sense = None; le
 answer_by place (Err e) = Ok (record { status = 0x02; sense = None; len = 0 })
 answer_by place _ = Err (BadReply place 6)
 
+-- how many bytes of data-in a reply brings
+abbrev pub count_in : Result Reply SenseFault → ℕ
+count_in (Ok (reply.Good n)) = n
+count_in _ = 0
+
 abbrev pub by_heard : {T : Type 0} → (Result Reply SenseFault → Result T LinkFault) → Result Heard LinkFault → Result T LinkFault
 by_heard says (Ok h) = says h.reply
 by_heard says (Err e) = Err e

@@ -4,3 +4,5 @@ pub mod Asking
 pub mod Judging
 pub mod Answering
 pub mod Calls
+pub mod Links
+pub mod Commands

@@ -1,4 +1,4 @@
-ghost use Rattle.std.specs.Prelude.{◌≡◌, ◌≤◌, length, IfErr};
+ghost use Rattle.std.specs.Prelude.{◌≡◌, ◌≤◌, length, IfErr, IfOk};
 ghost use Rattle.pr_words.specs.declared.limits.TheConstants.{DATA, HELD};
 ghost use Rattle.pr_grammar.specs.Frames.{spelled};
 ghost use Rattle.pr_io.specs.Causes.{Rose};
@@ -37,6 +37,7 @@ pub(crate) fn ask<W: Wire>(
     requires sent { length sent.now ≡ data_out_of request.now }
     ensures asks { Asks asked tag place (W.talk wire.old) (W.talk wire.new)
         (spelled (request_frame request.now 0 tag sent.now)) result work.new }
+    ensures size { IfOk result (λ h. h.size ≤ HELD) }
     ensures later { W.faults wire.old ≤ W.faults wire.new }
     ensures down { IfErr result (λ e. e ≡ LinkFault.Down →
         Rose (W.faults wire.old) (W.faults wire.new)) }

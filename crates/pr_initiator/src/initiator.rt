@@ -1,4 +1,4 @@
-ghost use Rattle.std.specs.Prelude.{◌≡◌, ◌≤◌, [], IfErr, IfOk, OnErr, OnOk, length};
+ghost use Rattle.std.specs.Prelude.{◌≡◌, ◌≤◌, ◌+◌, [], IfErr, IfOk, OnErr, OnOk, length};
 ghost use Rattle.pr_words.specs.declared.limits.TheConstants.{DATA, HELD};
 ghost use Rattle.pr_grammar.specs.Frames.{spelled};
 ghost use Rattle.pr_io.specs.Causes.{Rose};
@@ -6,7 +6,7 @@ ghost use Rattle.pr_io.specs.Talks.{Begins};
 ghost use Rattle.pr_link.specs.Requests.{request_frame, data_out_of};
 ghost use Rattle.pr_link.specs.declared.request.Request.TheVariants as request;
 ghost use Rattle.pr_initiator.specs.Answering.{Asks};
-ghost use Rattle.pr_initiator.specs.Calls.{Answers, login_by, logout_by, answer_by};
+ghost use Rattle.pr_initiator.specs.Calls.{Answers, login_by, logout_by, answer_by, count_in};
 
 use crate::answer::Answer;
 use crate::asking::{Heard, ask};
@@ -27,7 +27,9 @@ pub struct Initiator<W: Wire + Drop> {
     work: Vec<u8>,
     tag: u32,
     place: u64,
+    len: usize,
     ghost room: { length work.items ≡ HELD },
+    ghost within: { 16 + len ≤ HELD },
 }
 
 /// Asks over the whole buffer.
@@ -45,6 +47,7 @@ fn ask_in<W: Wire>(
     requires sent { length sent.now ≡ data_out_of request.now }
     ensures asks { Asks asked tag place (W.talk wire.old) (W.talk wire.new)
         (spelled (request_frame request.now 0 tag sent.now)) result work.new.items }
+    ensures size { IfOk result (λ h. h.size ≤ HELD) }
     ensures later { W.faults wire.old ≤ W.faults wire.new }
     ensures down { IfErr result (λ e. e ≡ LinkFault.Down →
         Rose (W.faults wire.old) (W.faults wire.new)) }
@@ -91,7 +94,19 @@ fn answer_of(place: u64, reply: Result<Reply, SenseFault>) -> Result<Answer, Lin
     Ok(Answer { status, sense, len })
 }
 
+/// How many bytes of data-in a reply brought.
+fn data_in_of(reply: &Result<Reply, SenseFault>) -> usize
+    ensures { result ≡ count_in reply.now }
+{
+    match reply {
+        Ok(Reply::Good { data_in }) => *data_in,
+        _ => 0,
+    }
+}
+
 impl<W: Wire + Drop> Initiator<W> {
+    ghost use Rattle.pr_initiator.specs.Links.{link_of, next_tag, HasReplied, Yields};
+
     /// An initiator on a wire. All memory is taken here: 524,320 bytes.
     ///
     /// # Errors
@@ -107,6 +122,7 @@ impl<W: Wire + Drop> Initiator<W> {
                 work,
                 tag: 1,
                 place: 0,
+                len: 0,
             }),
             Err(_) => Err(wire),
         }
@@ -129,27 +145,18 @@ impl<W: Wire + Drop> Initiator<W> {
             (W.talk self.old.wire) (W.talk self.new.wire)
             (spelled (request_frame (request.Login 1 nexus) 0 self.old.tag []))
             result self.new.work.items }
+        ensures yields { IfOk result (Yields (login_by self.old.place) 0x81
+            (link_of self.old) (link_of self.new)
+            (spelled (request_frame (request.Login 1 nexus) 0 self.old.tag []))) }
+        ensures tag { self.new.tag ≡ next_tag self.old.tag }
         ensures later { W.faults self.old.wire ≤ W.faults self.new.wire }
         ensures down { IfErr result (λ e. e ≡ LinkFault.Down →
             Rose (W.faults self.old.wire) (W.faults self.new.wire)) }
     {
-        let request = Request::Login { version: 1, nexus };
         let place = self.place;
-        let heard = ask_in(
-            &mut self.wire,
-            &mut self.work,
-            0x81,
-            self.tag,
-            place,
-            &request,
-            &[],
-        );
-        self.tag = self.tag.wrapping_add(1);
-        match heard {
-            Ok(heard) => {
-                self.place = place.wrapping_add(heard.size as u64);
-                login_of(place, heard.reply)
-            }
+        let request = Request::Login { version: 1, nexus };
+        match self.converse(0x81, &request, &[]) {
+            Ok(heard) => login_of(place, heard.reply),
             Err(fault) => Err(fault),
         }
     }
@@ -164,6 +171,7 @@ impl<W: Wire + Drop> Initiator<W> {
             address.now) }
         ensures tag { OnOk result (self.new.tag ≡ 1) }
         ensures place { OnOk result (self.new.place ≡ 0) }
+        ensures later { W.faults self.old.wire ≤ W.faults self.new.wire }
         ensures nothing { OnErr result (W.talk self.new.wire ≡ W.talk self.old.wire) }
         ensures fault { IfErr result (λ e. e ≡ LinkFault.Down) }
         ensures down { OnErr result (Rose (W.faults self.old.wire) (W.faults self.new.wire)) }
@@ -172,6 +180,7 @@ impl<W: Wire + Drop> Initiator<W> {
             Ok(()) => {
                 self.tag = 1;
                 self.place = 0;
+                self.len = 0;
                 Ok(())
             }
             Err(_) => Err(LinkFault::Down),
@@ -188,26 +197,17 @@ impl<W: Wire + Drop> Initiator<W> {
             (W.talk self.old.wire) (W.talk self.new.wire)
             (spelled (request_frame request.Logout 0 self.old.tag []))
             result self.new.work.items }
+        ensures yields { IfOk result (Yields (logout_by self.old.place) 0x83
+            (link_of self.old) (link_of self.new)
+            (spelled (request_frame request.Logout 0 self.old.tag []))) }
+        ensures tag { self.new.tag ≡ next_tag self.old.tag }
         ensures later { W.faults self.old.wire ≤ W.faults self.new.wire }
         ensures down { IfErr result (λ e. e ≡ LinkFault.Down →
             Rose (W.faults self.old.wire) (W.faults self.new.wire)) }
     {
         let place = self.place;
-        let heard = ask_in(
-            &mut self.wire,
-            &mut self.work,
-            0x83,
-            self.tag,
-            place,
-            &Request::Logout,
-            &[],
-        );
-        self.tag = self.tag.wrapping_add(1);
-        match heard {
-            Ok(heard) => {
-                self.place = place.wrapping_add(heard.size as u64);
-                logout_of(place, heard.reply)
-            }
+        match self.converse(0x83, &Request::Logout, &[]) {
+            Ok(heard) => logout_of(place, heard.reply),
             Err(fault) => Err(fault),
         }
     }
@@ -224,29 +224,66 @@ impl<W: Wire + Drop> Initiator<W> {
             (W.talk self.old.wire) (W.talk self.new.wire)
             (spelled (request_frame (request.Command cdb (length out.now)) 0 self.old.tag out.now))
             result self.new.work.items }
+        ensures yields { IfOk result (Yields (answer_by self.old.place) 0x82
+            (link_of self.old) (link_of self.new)
+            (spelled (request_frame (request.Command cdb (length out.now)) 0 self.old.tag out.now))) }
+        ensures tag { self.new.tag ≡ next_tag self.old.tag }
         ensures later { W.faults self.old.wire ≤ W.faults self.new.wire }
         ensures down { IfErr result (λ e. e ≡ LinkFault.Down →
             Rose (W.faults self.old.wire) (W.faults self.new.wire)) }
     {
+        let place = self.place;
         let request = Request::Command {
             cdb,
             data_out: out.len(),
         };
-        let place = self.place;
+        match self.converse(0x82, &request, out) {
+            Ok(heard) => answer_of(place, heard.reply),
+            Err(fault) => Err(fault),
+        }
+    }
+
+    /// The data-in of the last answer. There is none after a fault, and where the status wasn't GOOD.
+    pub fn received(&self) -> &[u8]
+        ensures { result.now ≡ (link_of self.now).received }
+    {
+        &self.work[16..16 + self.len]
+    }
+
+    /// Sends a request with its data-out, and waits for its reply of this kind. The next request has
+    /// the next tag, and the next reply begins behind this one.
+    fn converse(&mut self, asked: u8, request: &Request, sent: &[u8]) -> Result<Heard, LinkFault>
+        requires few { data_out_of request.now ≤ DATA }
+        requires sent { length sent.now ≡ data_out_of request.now }
+        ensures asks { Asks asked self.old.tag self.old.place
+            (W.talk self.old.wire) (W.talk self.new.wire)
+            (spelled (request_frame request.now 0 self.old.tag sent.now))
+            result self.new.work.items }
+        ensures replied { IfOk result (λ h. HasReplied asked
+            (link_of self.old) (link_of self.new)
+            (spelled (request_frame request.now 0 self.old.tag sent.now)) h.reply) }
+        ensures tag { self.new.tag ≡ next_tag self.old.tag }
+        ensures later { W.faults self.old.wire ≤ W.faults self.new.wire }
+        ensures down { IfErr result (λ e. e ≡ LinkFault.Down →
+            Rose (W.faults self.old.wire) (W.faults self.new.wire)) }
+    {
+        let (tag, place) = (self.tag, self.place);
         let heard = ask_in(
             &mut self.wire,
             &mut self.work,
-            0x82,
-            self.tag,
+            asked,
+            tag,
             place,
-            &request,
-            out,
+            request,
+            sent,
         );
-        self.tag = self.tag.wrapping_add(1);
+        self.tag = tag.wrapping_add(1);
+        self.len = 0;
         match heard {
             Ok(heard) => {
                 self.place = place.wrapping_add(heard.size as u64);
-                answer_of(place, heard.reply)
+                self.len = data_in_of(&heard.reply);
+                Ok(heard)
             }
             Err(fault) => Err(fault),
         }

@@ -3,6 +3,7 @@
 
 mod answer;
 mod asking;
+mod commands;
 mod initiator;
 mod judging;
 mod link_fault;

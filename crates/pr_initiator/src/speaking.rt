@@ -1,4 +1,4 @@
-ghost use Rattle.std.specs.Prelude.{◌≡◌, ◌≤◌, ℕ, List, [], length, IfErr, OnOk, OnErr};
+ghost use Rattle.std.specs.Prelude.{◌≡◌, ◌≤◌, ◌++◌, ℕ, List, [], length, IfErr, OnOk, OnErr};
 ghost use Rattle.pr_words.specs.declared.limits.TheConstants.{DATA, HELD};
 ghost use Rattle.pr_grammar.specs.Frames.{spelled};
 ghost use Rattle.pr_io.specs.Causes.{HasCause, Rose};
@@ -16,7 +16,8 @@ fn send<W: Wire>(wire: &mut W, tag: u32, request: &Request, sent: &[u8]) -> Resu
     requires sent { length sent.now ≡ data_out_of request.now }
     ensures goes { OnOk result (Goes (W.talk wire.old) (W.talk wire.new)
         (spelled (request_frame request.now 0 tag sent.now)) []) }
-    ensures went { OnErr result ((said : List ℕ) ×
+    ensures went { OnErr result ((said : List ℕ) × (unsaid : List ℕ) ×
+        (spelled (request_frame request.now 0 tag sent.now) ≡ said ++ unsaid) ×
         Goes (W.talk wire.old) (W.talk wire.new) said []) }
     ensures cause { HasCause (W.faults wire.old) (W.faults wire.new) result }
 {

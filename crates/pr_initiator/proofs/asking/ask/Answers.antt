@@ -1,10 +1,8 @@
 use Rattle.std.proofs.Common.{◌≡◌, ℕ, ◌+◌, ◌-◌, List, true, take, drop, sym, ap, ◌∙◌, subst, arith}
-use Rattle.std.specs.Prelude.{Ok, Err}
 use Rattle.pr_words.specs.declared.nexus.Side.TheVariants.{Initiator}
 use Rattle.pr_grammar.specs.Frames.{is_body}
 use Rattle.pr_link.specs.Streams.{frame_of}
 use Rattle.pr_link.specs.Fronts.{body_in}
-use Rattle.pr_initiator.specs.declared.link_fault.LinkFault.TheVariants as fault
 use Rattle.pr_initiator.specs.Judging.{judged}
 use Rattle.pr_initiator.proofs.Judgings.{IsJudged, is_judged, fails}
 use Rattle.pr_initiator.proofs.asking.ask.Goals as goal

@@ -1,4 +1,4 @@
-use Rattle.std.proofs.Common.{◌≡◌, ◌<◌, ℕ, List, length, take, ◌-◌, arith}
+use Rattle.std.proofs.Common.{◌<◌, ℕ, List, length, take, ◌-◌, arith}
 use Rattle.std.proofs.lemmas.List.{length-take}
 use Rattle.pr_initiator.proofs.Fronting.{short_lacks}
 use Rattle.pr_initiator.proofs.receiving.hear_length.Goals as goal

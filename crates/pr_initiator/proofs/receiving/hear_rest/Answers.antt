@@ -3,7 +3,6 @@ use Rattle.std.proofs.lemmas.List.{length-take, length-take-le, length-drop, tak
 use borrow.Rule.Slice.PartMut.{put_mid}
 use Rattle.pr_words.specs.Fields.{number32_at}
 use Rattle.pr_words.specs.declared.nexus.Side.TheVariants.{Initiator}
-use Rattle.pr_io.specs.Talks.{Talk}
 use Rattle.pr_initiator.specs.Goings.{Goes}
 use Rattle.pr_initiator.proofs.Going.{more}
 use Rattle.pr_initiator.proofs.Fronting.{rest_lacks, just, bad, joined, number_same}

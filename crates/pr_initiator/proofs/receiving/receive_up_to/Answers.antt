@@ -1,7 +1,6 @@
-use Rattle.std.proofs.Common.{arith, ◌≡◌, ◌≤◌, ◌-◌, [], length, take, drop, refl, ◌∙◌, rules}
-use Rattle.std.proofs.lemmas.List.{length-take, length-drop}
+use Rattle.std.proofs.Common.{arith, ◌≡◌, ◌≤◌, ◌-◌, length, take, drop, refl, ◌∙◌, rules}
 use Rattle.pr_io.proofs.Sent.{always_err}
-use Rattle.pr_initiator.proofs.Going.{next_in, received, ended_by, nothing, more, stays}
+use Rattle.pr_initiator.proofs.Going.{next_in, received, stays}
 use Rattle.pr_initiator.proofs.receiving.receive_up_to.Goals as goal
 
 pub loop-at-init : goal.loop-at-init
