@@ -17,6 +17,8 @@ pub(crate) enum Event {
     Asks(u8, Vec<u8>),
     /// Bytes arrive on a lane.
     Sends(u8, Vec<u8>),
+    /// Bytes arrive on a lane, each by itself.
+    Trickles(u8, Vec<u8>),
     /// A lane takes a step.
     Steps(u8),
     /// A connection is closed.
@@ -29,11 +31,20 @@ pub(crate) enum Event {
     Prints(Vec<u8>),
 }
 
+/// What a case finds below the target: a medium of so many blocks that are zero, whose calls of
+/// these numbers fail. The first call is number 1.
+#[derive(Clone, Drop)]
+pub(crate) struct Below {
+    pub blocks: u16,
+    pub failing: Vec<u64>,
+}
+
 /// A conversation by its name, with the words of the command that runs it.
 #[derive(Drop)]
 pub(crate) struct Case {
     pub name: String,
     pub call: String,
+    pub below: Below,
     pub events: Vec<Event>,
     pub exit: Exit,
 }
@@ -84,6 +95,7 @@ pub(crate) fn input_of(alloc: Global, events: &[Event], most: usize) -> Result<V
                 add_arrivals(&mut input, *lane, bytes, most, &bare(*lane, 1))?;
             }
             Event::Sends(lane, bytes) => add_arrivals(&mut input, *lane, bytes, most, &[])?,
+            Event::Trickles(lane, bytes) => add_arrivals(&mut input, *lane, bytes, 1, &[])?,
             Event::Steps(lane) => input.extend_from_slice(&bare(*lane, 1))?,
             Event::Closes(lane) => input.extend_from_slice(&bare(*lane, 2))?,
             Event::Raw(bytes) => input.extend_from_slice(bytes)?,

@@ -6,7 +6,7 @@ use thiserror::Error;
 pub(crate) enum Flaw {
     #[error("no line has this form")]
     UnknownLine,
-    #[error("a word is neither whole bytes in hexadecimal nor a name, a counter or a bracket")]
+    #[error("a word is no whole bytes in hexadecimal, name, counter, run of bytes or bracket")]
     UnknownWord,
     #[error("no bytes have this name")]
     UnknownName,
@@ -30,6 +30,8 @@ pub(crate) enum Flaw {
     NoLoop,
     #[error("no run ends so")]
     UnknownExit,
+    #[error("a medium has no block or more than 65535")]
+    MediumSize,
     #[error("an arrival or a frame is too long")]
     TooLong,
     #[error("no memory")]

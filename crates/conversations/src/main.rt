@@ -3,6 +3,7 @@
 
 mod case;
 mod flaw;
+mod number;
 mod reading;
 mod running;
 mod script;

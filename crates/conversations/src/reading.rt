@@ -1,11 +1,9 @@
 //! Files of conversations, line by line.
 
 use crate::flaw::Flaw;
+use crate::number::decimal;
 use crate::script::Script;
 use std::alloc::Global;
-
-/// The greatest number of a loop's turn.
-const TURNS: u64 = 1_000_000;
 
 /// A line that isn't read, by its number, which counts from 1.
 #[derive(Clone, Copy, Debug, PartialEq, Eq)]
@@ -111,14 +109,6 @@ fn grown<'a>(mut open: Loop<'a>, line: Line<'a>) -> Result<Option<Loop<'a>>, Ref
             line: number,
             flaw: Flaw::Memory,
         }),
-    }
-}
-
-/// A decimal number that a loop can have.
-fn decimal(word: &str) -> Result<u64, Flaw> {
-    match word.parse::<u64>() {
-        Ok(number) if number <= TURNS => Ok(number),
-        _ => Err(Flaw::BadNumber),
     }
 }
 

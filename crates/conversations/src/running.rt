@@ -3,9 +3,9 @@
 ghost use Rattle.std.specs.Prelude.{◌≡◌, ◌≤◌, ◌↔◌};
 ghost use Rattle.conversations.specs.declared.running.Verdict.TheVariants.{Met};
 
-use crate::case::{Case, RECORD, Stream, input_of, output_of};
+use crate::case::{Below, Case, RECORD, Stream, input_of, output_of};
 use crate::flaw::Flaw;
-use pr_io::{MemSink, MemSource, SureDisk, SureMedium};
+use pr_io::{MemMedium, MemSink, MemSource, SureDisk};
 use pr_tool::{Exit, replay_main, show_main};
 use std::alloc::Global;
 
@@ -38,9 +38,24 @@ pub(crate) enum Verdict {
     OtherBytes(usize),
 }
 
-/// Runs the command of these words, with streams that move at most so many bytes a call, a medium
-/// of one block and a disk of zeros.
-fn run(alloc: Global, words: &[&str], input: Vec<u8>, most: usize) -> Result<(Exit, MemSink), Flaw>
+/// The medium that a case finds.
+fn medium_of(alloc: Global, below: &Below) -> Result<MemMedium, Flaw> {
+    if below.blocks == 0 {
+        return Err(Flaw::MediumSize);
+    }
+    let bytes = vec![in alloc; 0u8; 512 * usize::from(below.blocks)]?;
+    Ok(MemMedium::new(bytes, below.failing.clone()?))
+}
+
+/// Runs the command of these words, with streams that move at most so many bytes a call, over a
+/// medium and a disk of zeros.
+fn run(
+    alloc: Global,
+    words: &[&str],
+    below: &Below,
+    input: Vec<u8>,
+    most: usize,
+) -> Result<(Exit, MemSink), Flaw>
     requires { 1 ≤ most }
 {
     let mut source = MemSource::in_pieces(input, most, Vec::new(alloc));
@@ -49,7 +64,7 @@ fn run(alloc: Global, words: &[&str], input: Vec<u8>, most: usize) -> Result<(Ex
         let exit = show_main(alloc, &mut source, &mut sink);
         return Ok((exit, sink));
     }
-    let mut medium = SureMedium::new(vec![in alloc; 0u8; 512]?);
+    let mut medium = medium_of(alloc, below)?;
     let mut disk = SureDisk::new(vec![in alloc; 0u8; 262_144]?);
     let exit = replay_main(alloc, words, &mut source, &mut sink, &mut medium, &mut disk);
     Ok((exit, sink))
@@ -77,6 +92,7 @@ fn judge(exit: Exit, written: &[u8], wanted_exit: Exit, wanted: &[u8]) -> Verdic
 #[derive(Drop)]
 struct Trial<'a> {
     words: Vec<&'a str>,
+    below: &'a Below,
     exit: Exit,
     output: Vec<u8>,
 }
@@ -86,7 +102,7 @@ impl Trial<'_> {
     fn run(&self, alloc: Global, input: Vec<u8>, most: usize) -> Result<Verdict, Flaw>
         requires { 1 ≤ most }
     {
-        let (exit, sink) = run(alloc, &self.words, input, most)?;
+        let (exit, sink) = run(alloc, &self.words, self.below, input, most)?;
         Ok(judge(exit, sink.bytes(), self.exit, &self.output))
     }
 
@@ -107,6 +123,7 @@ impl Trial<'_> {
 pub(crate) fn try_case(alloc: Global, case: &Case) -> Result<(Cut, Verdict), Flaw> {
     let trial = Trial {
         words: case.call.split_whitespace().collect(alloc)?,
+        below: &case.below,
         exit: case.exit,
         output: output_of(alloc, &case.events)?,
     };

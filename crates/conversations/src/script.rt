@@ -1,7 +1,8 @@
 //! What the lines of files tell: names of bytes, and cases.
 
-use crate::case::{Case, Event};
+use crate::case::{Below, Case, Event};
 use crate::flaw::Flaw;
+use crate::number::{decimal, decimals};
 use crate::spelling::{Names, spell};
 use pr_tool::Exit;
 use std::alloc::Global;
@@ -51,6 +52,10 @@ impl Script {
                 self.last()?.call = words.join(alloc, " ")?;
                 Ok(())
             }
+            ["medium", blocks, words @ ..] => {
+                self.last()?.below = below_of(alloc, blocks, words)?;
+                Ok(())
+            }
             ["exit", words @ ..] => {
                 self.last()?.exit = exit_of(words)?;
                 Ok(())
@@ -87,11 +92,15 @@ impl Script {
         Ok(())
     }
 
-    /// Begins a case, which is done by one lane if nothing else is said.
+    /// Begins a case, which is done by one lane over a medium of one block if nothing else is said.
     fn begin(&mut self, alloc: Global, name: String) -> Result<(), Flaw> {
         self.cases.push(Case {
             name,
             call: String::from_str(alloc, "replay 1")?,
+            below: Below {
+                blocks: 1,
+                failing: Vec::new(alloc),
+            },
             events: Vec::new(alloc),
             exit: Exit::Done,
         })?;
@@ -104,9 +113,11 @@ impl Script {
         let earlier = self.cases.iter().find(|case| case.name == name);
         let earlier = earlier.ok_or(Flaw::UnknownCase)?;
         let call = earlier.call.clone()?;
+        let below = earlier.below.clone()?;
         let events = earlier.events.clone()?;
         let case = self.last()?;
         case.call = call;
+        case.below = below;
         case.events = events;
         Ok(())
     }
@@ -130,6 +141,17 @@ fn prints(alloc: Global, words: &[&str]) -> Result<Event, Flaw> {
     Ok(Event::Prints(text.into_bytes()))
 }
 
+/// The medium of a number of blocks, of which words may tell which calls fail.
+fn below_of(alloc: Global, blocks: &str, words: &[&str]) -> Result<Below, Flaw> {
+    let blocks = u16::try_from(decimal(blocks)?).map_err(|_| Flaw::MediumSize)?;
+    let failing = match words {
+        [] => Vec::new(alloc),
+        ["fails", calls @ ..] => decimals(alloc, calls)?,
+        _ => return Err(Flaw::UnknownLine),
+    };
+    Ok(Below { blocks, failing })
+}
+
 /// The exit that these words name. No other comes where nothing fails.
 fn exit_of(words: &[&str]) -> Result<Exit, Flaw> {
     match words {
@@ -151,6 +173,7 @@ fn event_of(alloc: Global, lane: &str, verb: &str, bytes: Vec<u8>) -> Result<Eve
     match (lane.as_slice(), verb, bytes.is_empty()) {
         ([lane], "asks", false) => Ok(Event::Asks(*lane, bytes)),
         ([lane], "sends", false) => Ok(Event::Sends(*lane, bytes)),
+        ([lane], "trickles", false) => Ok(Event::Trickles(*lane, bytes)),
         ([lane], "hears", false) => Ok(Event::Hears(*lane, bytes)),
         ([lane], "steps", true) => Ok(Event::Steps(*lane)),
         ([lane], "closes", true) => Ok(Event::Closes(*lane)),

@@ -4,6 +4,7 @@ ghost use Rattle.std.specs.Prelude.{◌≡◌, ◌≤◌, ◌↔◌, length, IfO
 ghost use Rattle.conversations.specs.Spellings.{framed, padded};
 
 use crate::flaw::Flaw;
+use crate::number::decimal;
 use std::alloc::Global;
 use std::collections::BTreeMap;
 
@@ -144,9 +145,26 @@ fn piece(alloc: Global, names: &Names, word: &str, turn: Option<u64>) -> Result<
     if let Some(width) = word.strip_prefix('%') {
         return counter(alloc, width, turn.ok_or(Flaw::BadCounter)?);
     }
+    if let Some(run) = word.strip_prefix('x') {
+        return repeated(alloc, run);
+    }
     match hex::decode(alloc, word) {
         Ok(bytes) => Ok(bytes),
         Err(_) => Err(Flaw::UnknownWord),
+    }
+}
+
+/// So many bytes of one value: a decimal number, a colon and the value.
+fn repeated(alloc: Global, run: &str) -> Result<Vec<u8>, Flaw> {
+    let (count, value) = run.split_once(':').ok_or(Flaw::UnknownWord)?;
+    let count = decimal(count)? as usize;
+    let value = match hex::decode(alloc, value) {
+        Ok(value) => value,
+        Err(_) => return Err(Flaw::UnknownWord),
+    };
+    match value.as_slice() {
+        [value] => Ok(vec![in alloc; *value; count]?),
+        _ => Err(Flaw::UnknownWord),
     }
 }
 
