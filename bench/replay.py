@@ -1,5 +1,5 @@
 #!/usr/bin/env python3
-"""Measures the program's `replay`: commands a second, instructions a command, resident memory.
+"""Measures the program's `replay`: commands a second, instructions a command and a step, bytes a second, resident memory.
 
 Usage: bench/replay.py [COMMANDS]     (commands of a timed run; 200000 where none are given)
 
@@ -7,9 +7,16 @@ A schedule of one lane logs in, takes the attention of the power-up and register
 same command, each as an arrival and a step. Before that, 255 other nexuses may log in on the lane, each of whose
 connections is closed, so that 256 nexuses are known. A schedule of 64 lanes logs each in, and then each in turn
 registers, reserves and releases. With a type of registrants only, each release tells the other 63, so each lane begins
-with a command that takes that attention. Times come from the fastest of several runs, less that of a run with no such
-command. Instructions are counted by callgrind over two lengths, and their difference is divided, so that start-up
-cancels. Memory is the peak that the system tells of the process when the last reply has come.
+with a command that takes that attention.
+
+A READ or WRITE of 1,024 blocks is admitted by a step, and then moves a block with each further one. What such a step
+costs, from its record on, comes from two schedules that differ in the number of these steps alone. Bytes a second are
+those of WRITEs, and of READs, of 1,024 blocks, one after another, each of which arrives, is stepped and is answered.
+
+Times come from the fastest of several runs, less that of a run with no such command. Instructions are counted by
+callgrind over two lengths, and their difference is divided, so that start-up cancels. Memory is the peak that the
+system tells of the process when the last reply has come. Bytes a second have a bound only where this machine copies
+memory fast enough, which is measured beside them.
 
 Exit status: 0 where the bounds hold, 1 where one doesn't, 2 where nothing could be measured.
 """
@@ -27,11 +34,17 @@ LANES = 64
 KNOWN = 256
 ROUNDS = 7
 COUNTED = (2000, 12000)
+COUNTED_STEPS = (24, 1024)
+BLOCKS = 1024  # of a READ or WRITE, which is the most
+TRANSFERS = 200  # of these in a timed run
 
 MOST_INSTRUCTIONS = 3000  # of a TEST UNIT READY, from arrival to reply
 MOST_GROWTH = 1.15  # of these instructions, where 256 nexuses are known, to those where one is
 MOST_MEMORY = 8 * 1024  # KiB resident, with one lane
 MOST_MEMORY_OF_ALL = 72 * 1024  # KiB resident, with 64 lanes
+MOST_OF_A_STEP = 500  # instructions of a step that moves a block, with its copy
+LEAST_BYTES = 400e6  # a second, of WRITEs
+LEAST_COPIED = 5e9  # bytes a second, where LEAST_BYTES is asked for
 LEAST_SHARE = 0.5  # of the rate of a TEST UNIT READY on one lane, where 64 lanes reserve
 
 
@@ -53,11 +66,15 @@ def turn(text, lane=0):
     return arrivals(text, lane) + bytes([lane, 1, 0, 0])
 
 
+STEP = bytes([0, 1, 0, 0])
 CLOSE = bytes([0, 2, 0, 0])
 TEST_UNIT_READY = bytes(6)
 REGISTER_AND_IGNORE = bytes.fromhex("5F060000000000001800")
 READ_KEYS = bytes.fromhex("5E000000000000010000")
-LONGEST = bytes(524288)
+WRITE = bytes.fromhex("2A000000000000040000")
+WRITE_BEHIND = bytes.fromhex("2A000000040000040000")
+READ = bytes.fromhex("28000000000000040000")
+LONGEST = bytes(512 * BLOCKS)
 
 
 def login(lane):
@@ -85,6 +102,16 @@ OTHERS = b"".join(turn(frame(1, 1, login(other))) + CLOSE for other in range(1, 
 
 def schedule(cdb, count, before=b""):
     return before + OPENING + b"".join(turn(command(tag, cdb)) for tag in range(4, 4 + count))
+
+
+def stepped(cdb, data, steps, before=b""):
+    """A READ or WRITE that is admitted and takes so many steps."""
+    return before + OPENING + turn(command(4, cdb, data)) + steps * STEP
+
+
+def transfers(cdb, data, count):
+    """So many READs or WRITEs, each of which is answered by the step behind its last block."""
+    return OPENING + count * (turn(command(4, cdb, data)) + (BLOCKS + 1) * STEP)
 
 
 def cluster(kind, rounds):
@@ -132,10 +159,16 @@ def instructions(path, lanes):
 def memory(lanes):
     """The peak of the resident memory, in KiB, asked for while the program still waits for more.
 
-    Each lane ends with the longest frame, whose data-out fills the ring and the work buffer.
+    Each lane ends with the longest frame, whose data-out fills the ring and the work buffer, and writes every block.
     """
     text = b"".join(
-        turn(frame(1, 1, login(lane)), lane) + turn(command(2, TEST_UNIT_READY, LONGEST), lane) for lane in range(lanes)
+        turn(frame(1, 1, login(lane)), lane)
+        + turn(command(2, TEST_UNIT_READY), lane)
+        + turn(command(3, WRITE, LONGEST), lane)
+        + (BLOCKS + 1) * bytes([lane, 1, 0, 0])
+        + turn(command(4, WRITE_BEHIND, LONGEST), lane)
+        + (BLOCKS + 1) * bytes([lane, 1, 0, 0])
+        for lane in range(lanes)
     )
     with subprocess.Popen(words(lanes), stdin=subprocess.PIPE, stdout=subprocess.PIPE) as child:
         child.stdin.write(text)
@@ -174,6 +207,40 @@ def measure(folder, name, cdb, count, before=b""):
     return rate, each
 
 
+def measure_step(folder, name, cdb, data, before=b""):
+    """Instructions of a step that moves a block, or None."""
+    if not shutil.which("valgrind"):
+        return None
+    few, many = (instructions(write(folder, "counted", stepped(cdb, data, n, before)), 1) for n in COUNTED_STEPS)
+    each = (many - few) / (COUNTED_STEPS[1] - COUNTED_STEPS[0])
+    print(f"{name}: instructions a step {each:.0f}")
+    return each
+
+
+def measure_bytes(folder, name, cdb, data):
+    """Bytes a second of READs or WRITEs of 1,024 blocks."""
+    opening = seconds(write(folder, "opening", transfers(cdb, data, 0)), folder, 1)
+    path = write(folder, "schedule", transfers(cdb, data, TRANSFERS))
+    rate = TRANSFERS * len(LONGEST) / (seconds(path, folder, 1) - opening)
+    print(f"{name}: {rate / 1e6:.0f} MB/s")
+    return rate
+
+
+def copied():
+    """Bytes a second that this machine copies from memory to memory."""
+    source = bytearray(1 << 26)
+    target = memoryview(bytearray(1 << 26))
+    best = None
+    for _ in range(ROUNDS):
+        start = time.perf_counter()
+        target[:] = source
+        took = time.perf_counter() - start
+        best = took if best is None else min(best, took)
+    rate = len(source) / best
+    print(f"memory is copied at {rate / 1e9:.1f} GB/s")
+    return rate
+
+
 def measure_cluster(folder, name, kind, count):
     """Commands a second of 64 lanes."""
     opening = seconds(write(folder, "opening", cluster(kind, 0)[0]), folder, LANES)
@@ -201,14 +268,25 @@ def main():
             measure_cluster(folder, f"64 lanes register, reserve and release type {kind}h", kind, count)
             for kind in (1, 5)
         ]
+        steps = [
+            measure_step(folder, f"{name} of {BLOCKS} blocks{where}", cdb, data, before)
+            for name, cdb, data in (("WRITE", WRITE, LONGEST), ("READ", READ, b""))
+            for where, before in (("", b""), (f", {KNOWN} known nexuses", OTHERS))
+        ]
+        is_fast = copied() >= LEAST_COPIED
+        written = measure_bytes(folder, f"WRITE of {BLOCKS} blocks", WRITE, LONGEST)
+        measure_bytes(folder, f"READ of {BLOCKS} blocks", READ, b"")
     holds = (
         memory(1) < MOST_MEMORY
         and memory(LANES) < MOST_MEMORY_OF_ALL
         and (each is None or (each <= MOST_INSTRUCTIONS and crowded <= MOST_GROWTH * each))
+        and all(step is None or step <= MOST_OF_A_STEP for step in steps)
+        and (written >= LEAST_BYTES or not is_fast)
         and min(rates) >= LEAST_SHARE * rate
     )
     counted = "" if each is not None else " (instructions weren't counted: there is no valgrind)"
-    print(f"bounds: {'hold' if holds else 'BROKEN'}{counted}")
+    asked = "" if is_fast else " (bytes a second weren't looked at: memory is copied too slowly)"
+    print(f"bounds: {'hold' if holds else 'BROKEN'}{counted}{asked}")
     return 0 if holds else 1
 
 
