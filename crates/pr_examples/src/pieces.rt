@@ -2,20 +2,17 @@
 
 ghost use Rattle.std.specs.Prelude.{◌<◌, ◌≤◌};
 
-use crate::streams::{ACCEPTED, LOGIN, POWER_ON, TEST_UNIT_READY, bytes_of, replay};
-use pr_io::{MemSink, MemSource};
-use pr_tool::Exit;
+use crate::streams::{ACCEPTED, LOGIN, POWER_ON, TEST_UNIT_READY, bytes_of};
+use pr_io::{MemMedium, MemSink, MemSource, SureDisk};
+use pr_tool::{Exit, replay_main};
 use std::alloc::{AllocError, Global};
 use std::test::*;
 
 /// A WRITE(10) of 1,024 blocks, whose tag is 3, up to its data-out of 524,288 bytes.
 const WRITE: &str = "0008001C 02000000 00000003 0A000000 2A000000000000040000 000000000000";
 
-/// The steps in which it is begun, moves its blocks and is answered.
-const STEPS: usize = 1_026;
-
-/// The reply GOOD.
-const GOOD: &str = "0000000C 82000000 00000003 00000000";
+/// The reply that it was done: GOOD.
+const DONE: &str = "0000000C 82000000 00000003 00000000";
 
 /// Adds the bytes as arrivals of lane 0, each of so many but the last.
 fn add_arrivals(schedule: &mut Vec<u8>, bytes: &[u8], size: u16) -> Result<(), AllocError>
@@ -30,16 +27,17 @@ fn add_arrivals(schedule: &mut Vec<u8>, bytes: &[u8], size: u16) -> Result<(), A
 }
 
 /// Adds so many steps of lane 0.
-fn add_steps(schedule: &mut Vec<u8>, count: usize) -> Result<(), AllocError> {
+fn add_steps(schedule: &mut Vec<u8>, count: u16) -> Result<(), AllocError> {
     for _ in 0..count {
         schedule.extend_from_slice(&[0, 1, 0, 0])?;
     }
     Ok(())
 }
 
-/// What is written where a nexus logs in, asks whether the unit is ready, and then sends the WRITE
-/// in pieces of so many bytes, but for its last ones, and takes steps.
-fn written(alloc: Global, size: u16, lacking: usize) -> Result<Vec<u8>, Fail>
+/// What is written, and what the medium of 1,024 blocks then holds, where a nexus logs in, asks
+/// whether the unit is ready, and then sends the WRITE in pieces of so many bytes, but for its last
+/// ones, and takes the step that admits it, one for each block and one that answers.
+fn written(alloc: Global, size: u16, lacking: usize) -> Result<(MemSink, MemMedium), Fail>
     requires { 0 < size }
 {
     let mut frame = bytes_of(alloc, &[WRITE])?;
@@ -55,17 +53,24 @@ fn written(alloc: Global, size: u16, lacking: usize) -> Result<Vec<u8>, Fail>
         ],
     )?;
     add_arrivals(&mut schedule, &frame, size)?;
-    add_steps(&mut schedule, STEPS)?;
+    add_steps(&mut schedule, 1_026)?;
+    let mut source = MemSource::new(schedule, Vec::new(alloc));
     let mut sink = MemSink::new(alloc, Vec::new(alloc));
-    let exit = replay(
+    let mut medium = MemMedium::new(vec![in alloc; 0u8; 524_288]?, Vec::new(alloc));
+    let mut disk = SureDisk::new(vec![in alloc; 0u8; 262_144]?);
+    let words = ["replay", "1"];
+    let exit = replay_main(
         alloc,
-        &mut MemSource::new(schedule, Vec::new(alloc)),
+        &words,
+        &mut source,
         &mut sink,
-    )?;
+        &mut medium,
+        &mut disk,
+    );
     if exit != Exit::Done {
         return Err(Fail::new("the run ended otherwise"));
     }
-    Ok(sink.bytes().to_vec(alloc)?)
+    Ok((sink, medium))
 }
 
 #[test]
@@ -73,14 +78,18 @@ fn the_longest_frame_is_one_command_however_it_is_cut(rt: HostRuntime) -> Result
     let alloc = rt.alloc();
     let whole = bytes_of(
         alloc,
-        &[
-            "00000010", ACCEPTED, "00000022", POWER_ON, "00000010", GOOD,
-        ],
+        &["00000010", ACCEPTED, "00000022", POWER_ON, "00000010", DONE],
     )?;
     let short = bytes_of(alloc, &["00000010", ACCEPTED, "00000022", POWER_ON])?;
+    let new = vec![in alloc; 0xA5u8; 524_288]?;
+    let old = vec![in alloc; 0u8; 524_288]?;
     for size in [1u16, 7, 65_535] {
-        assert!(rt; written(alloc, size, 0)? == whole, "in pieces of {size}");
-        assert!(rt; written(alloc, size, 1)? == short, "in pieces of {size}");
+        let (sink, medium) = written(alloc, size, 0)?;
+        assert!(rt; sink.bytes() == whole.as_slice(), "in pieces of {size}");
+        assert!(rt; medium.bytes() == new.as_slice(), "in pieces of {size}");
+        let (sink, medium) = written(alloc, size, 1)?;
+        assert!(rt; sink.bytes() == short.as_slice(), "in pieces of {size}");
+        assert!(rt; medium.bytes() == old.as_slice(), "in pieces of {size}");
     }
     Ok(())
 }
