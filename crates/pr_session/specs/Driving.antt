@@ -20,7 +20,6 @@ use Rattle.pr_session.specs.Asking.{nexus_in, next_by}
 use Rattle.pr_session.specs.States.{asked_in}
 use Rattle.pr_session.specs.Sessions.{work_of}
 use Rattle.pr_session.specs.Coming.{IsReady}
-
 pub use Rattle.pr_session.specs.Coming.{Agrees}
 
 -- the core has what each lane has reached, by the number of its place

@@ -426,7 +426,14 @@ impl Session {
             StepOut::Aborted => self.end(nexus, job.lun, job.tag, Status::TaskAborted, None, 0),
             StepOut::Fault(code) => {
                 let sense = Sense { code, info: None };
-                self.end(nexus, job.lun, job.tag, Status::CheckCondition, Some(sense), 0);
+                self.end(
+                    nexus,
+                    job.lun,
+                    job.tag,
+                    Status::CheckCondition,
+                    Some(sense),
+                    0,
+                );
             }
         }
     }
