@@ -3,3 +3,7 @@ pub mod Matching
 pub mod Numbering
 pub mod Reading
 pub mod Wanting
+pub mod Stepping
+pub mod Putting
+pub mod Zeros
+pub mod Printed

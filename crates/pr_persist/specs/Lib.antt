@@ -1,3 +1,7 @@
 pub mod Numbers
 pub mod Arguments
 pub mod Asking
+pub mod Exits
+pub mod Runs
+pub mod Texts
+pub mod Prints

@@ -2,6 +2,12 @@
 #![tactic(auto)]
 
 mod arguments;
+mod digits;
+mod exit;
 mod numbers;
 mod plan;
+mod printing;
+mod steps;
 mod words;
+
+pub use exit::PersistExit;

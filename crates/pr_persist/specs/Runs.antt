@@ -1,0 +1,91 @@
+-- What a run sends, and how it goes on (this project's own; the commands are SPC-4's).
+use Rattle.std.specs.Prelude.{◌≡◌, ℕ, ◌≤◌, Bool, false, List, [], Result, Ok, Err, OnOk, OnErr, IfErr}
+use Rattle.pr_words.specs.declared.code.TheConstants as code
+use Rattle.pr_words.specs.declared.nexus.Nexus.{Nexus}
+use Rattle.pr_words.specs.declared.service.OutService.{OutService}
+use Rattle.pr_words.specs.declared.service.OutService.TheVariants as outs
+use Rattle.pr_grammar.specs.Frames.{spelled}
+use Rattle.pr_io.specs.Causes.{Rose}
+use Rattle.pr_io.specs.Talks.{Begins}
+use Rattle.pr_link.specs.Requests.{request_frame}
+use Rattle.pr_link.specs.declared.request.Request.TheVariants as request
+use Rattle.pr_initiator.specs.declared.answer.Answer.{Answer}
+use Rattle.pr_initiator.specs.declared.link_fault.LinkFault.{LinkFault}
+use Rattle.pr_initiator.specs.declared.link_fault.LinkFault.TheVariants as fault
+use Rattle.pr_initiator.specs.Calls.{login_by, logout_by}
+use Rattle.pr_initiator.specs.Commands.{Order, HasAnswered, IsReady, inquiry, out_list, reserve_in, reserve_out}
+use Rattle.pr_initiator.specs.Links.{Link, HasCalled}
+use Rattle.pr_persist.specs.declared.exit.PersistExit.{PersistExit}
+use Rattle.pr_persist.specs.declared.plan.Action.{Action}
+use Rattle.pr_persist.specs.declared.plan.Action.TheVariants.{In, Out}
+use Rattle.pr_persist.specs.declared.plan.Fields.{Fields}
+use Rattle.pr_persist.specs.Asking.{Wanted}
+use Rattle.pr_persist.specs.Exits.{judged_by, linked_by}
+
+-- the order of an action; what it doesn't take is zero
+abbrev pub changes_by : OutService → Fields → Order
+changes_by outs.Register f = reserve_out outs.Register 0 (out_list f.key.0 f.action_key.0 f.aptpl)
+changes_by outs.RegisterAndIgnoreExistingKey f = reserve_out outs.RegisterAndIgnoreExistingKey 0 (out_list 0 f.action_key.0 f.aptpl)
+changes_by outs.Reserve f = reserve_out outs.Reserve f.kind (out_list f.key.0 0 false)
+changes_by outs.Release f = reserve_out outs.Release f.kind (out_list f.key.0 0 false)
+changes_by outs.Clear f = reserve_out outs.Clear 0 (out_list f.key.0 0 false)
+changes_by outs.Preempt f = reserve_out outs.Preempt f.kind (out_list f.key.0 f.action_key.0 false)
+changes_by outs.PreemptAndAbort f = reserve_out outs.PreemptAndAbort f.kind (out_list f.key.0 f.action_key.0 false)
+
+abbrev pub order_of : Action → Fields → Order
+order_of (In service) f = reserve_in service
+order_of (Out service) f = changes_by service f
+
+-- a connection to this address begins, or nothing is added
+pub record HasDialled (address : List ℕ) (old new : Link) (result : Result Unit LinkFault) : Type 0 where
+  pub begins : OnOk result (Begins old.talk new.talk address)
+  pub tag : OnOk result (new.tag ≡ 1)
+  pub place : OnOk result (new.place ≡ 0)
+  pub nothing : OnErr result (new.talk ≡ old.talk)
+  pub fault : IfErr result (λ e. e ≡ fault.Down)
+  pub down : OnErr result (Rose old.faults new.faults)
+  pub later : old.faults ≤ new.faults
+
+-- just a Login, or a Logout, was sent, and its reply says the result
+abbrev pub HasLoggedIn : Nexus → Link → Link → Result Unit LinkFault → Type 0
+HasLoggedIn nexus old new result = HasCalled (login_by old.place) 0x81 old new (spelled (request_frame (request.Login 1 nexus) 0 old.tag [])) result
+
+abbrev pub HasLoggedOut : Link → Link → Result Unit LinkFault → Type 0
+HasLoggedOut old new result = HasCalled (logout_by old.place) 0x83 old new (spelled (request_frame request.Logout 0 old.tag [])) result
+
+-- a step of a run: what came of it, by the initiator before and after it
+abbrev pub Step : Type 0 → Type 1
+Step T = Link → Link → Result T PersistExit → Type 0
+
+-- a fault of the link ends the run
+abbrev pub Linked : (Link → Link → Result Unit LinkFault → Type 0) → Step Unit
+Linked call old new result = (r : Result Unit LinkFault) × call old new r × (result ≡ linked_by r)
+
+-- and so does an answer that isn't GOOD
+abbrev pub Judged : (Link → Link → Result Answer LinkFault → Type 0) → Step Answer
+Judged call old new result = (r : Result Answer LinkFault) × call old new r × (result ≡ judged_by r)
+
+abbrev pub GoesOn : {T U : Type 0} → (T → Step U) → Result T PersistExit → Step U
+GoesOn next (Ok v) mid new result = next v mid new result
+GoesOn next (Err e) mid new result = (new ≡ mid) × (result ≡ Err e)
+
+-- one step, and what follows it unless it ends the run
+abbrev pub Then : {T U : Type 0} → Step T → (T → Step U) → Step U
+Then {T} first next old new result = (mid : Link) × (r : Result T PersistExit) × first old mid r × GoesOn next r mid new result
+
+-- it logs in, and asks until the target is ready
+abbrev pub Enters : Nexus → Step Answer
+Enters nexus = Then (Linked (HasLoggedIn nexus)) (λ u. Judged (IsReady 9 code.Code.NO_SENSE))
+
+-- it dials before
+abbrev pub Opens : Wanted → Step Answer
+Opens w = Then (Linked (HasDialled w.address)) (λ u. Enters w.nexus)
+
+abbrev pub Inquires : Step Answer
+Inquires = Judged (λ old new r. HasAnswered old new inquiry r)
+
+abbrev pub Acts : Wanted → Step Answer
+Acts w = Judged (λ old new r. HasAnswered old new (order_of w.action w.fields) r)
+
+abbrev pub Closes : Step Unit
+Closes = Linked HasLoggedOut
