@@ -4,10 +4,12 @@
 mod arguments;
 mod digits;
 mod exit;
+mod full;
 mod numbers;
 mod plan;
 mod printing;
 mod steps;
+mod texts;
 mod words;
 
 pub use exit::PersistExit;

@@ -34,7 +34,7 @@ pub(crate) fn put_pieces<K: Sink>(sink: &mut K, pieces: &[&[u8]]) -> Result<(), 
 /// # Errors
 ///
 /// Where the sink fails. A front of the three was put then.
-fn put_number<K: Sink>(
+pub(crate) fn put_number<K: Sink>(
     sink: &mut K,
     before: &[u8],
     number: u64,

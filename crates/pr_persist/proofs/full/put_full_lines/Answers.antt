@@ -1,0 +1,31 @@
+use Rattle.std.proofs.Common.{◌∙◌, ◌<◌, ◌≤◌, ℕ, length, refl, ap, sym, subst, arith}
+use Rattle.std.specs.Prelude.{Result, Ok, Err}
+use Rattle.std.proofs.lemmas.Option.{get_or_from_slice_get}
+use Rattle.pr_io.specs.declared.outside.Failed.{Failed}
+use Rattle.pr_io.specs.Told.{told_sink}
+use Rattle.pr_io.proofs.Pieces.{put_nothing}
+use Rattle.pr_persist.specs.Prints.{HasPrinted}
+use Rattle.pr_persist.specs.Texts.{full_line}
+use Rattle.pr_persist.proofs.Putting.{next_put, next_failed, all_put}
+use Rattle.pr_persist.proofs.Printed.{lines_went, lines_failed, lines_done}
+use Rattle.pr_persist.proofs.full.put_full_lines.Goals as goal
+
+pub loop-i-init : goal.loop-i-init
+loop-i-init g c = record { put = put_nothing (g.K.Sink.written c.args.sink.now); calm = refl }
+
+pub loop-i-preserved : goal.loop-i-preserved
+loop-i-preserved g c =
+    let less : c.loop-i.i < length c.args.full.now.entries = omega (arith, c.loop-i-test.true, c.count-i-end.ensures) in
+    let line = subst (λ (r : Result Unit Failed). HasPrinted (told_sink g.K.Sink c.loop-i.sink) (told_sink g.K.Sink c.put_full_line.new.sink) (full_line c.at-entry.result) r) c.in-Ok.is c.put_full_line.ensures in
+    lines_went full_line (told_sink g.K.Sink c.args.sink.now) _ _ c.args.full.now.entries c.loop-i.i c.at-entry.result less c.at-entry.ensures c.loop-i.invariant line
+
+pub returns-in-Err : goal.returns-in-Err
+returns-in-Err g c =
+    let less : c.loop-i.i < length c.args.full.now.entries = omega (arith, c.loop-i-test.true, c.count-i-end.ensures) in
+    let line = subst (λ (r : Result Unit Failed). HasPrinted (told_sink g.K.Sink c.loop-i.sink) (told_sink g.K.Sink c.put_full_line.new.sink) (full_line c.at-entry.result) r) c.in-Err.is c.put_full_line.ensures in
+    lines_failed full_line (told_sink g.K.Sink c.args.sink.now) _ _ c.args.full.now.entries c.loop-i.i c.at-entry.result c.in-Err.failed less c.at-entry.ensures c.loop-i.invariant line
+
+pub returns : goal.returns
+returns g c =
+    let most : length c.args.full.now.entries ≤ c.loop-i.i = omega (arith, c.loop-i-test.false, c.count-i-end.ensures) in
+    lines_done full_line (told_sink g.K.Sink c.args.sink.now) _ c.args.full.now.entries c.loop-i.i most c.loop-i.invariant
