@@ -7,3 +7,4 @@ pub mod Stepping
 pub mod Putting
 pub mod Zeros
 pub mod Printed
+pub mod Shown

@@ -5,3 +5,5 @@ pub mod Exits
 pub mod Runs
 pub mod Texts
 pub mod Prints
+pub mod Shows
+pub mod Whole

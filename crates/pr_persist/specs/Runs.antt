@@ -53,39 +53,39 @@ HasLoggedIn nexus old new result = HasCalled (login_by old.place) 0x81 old new (
 abbrev pub HasLoggedOut : Link → Link → Result Unit LinkFault → Type 0
 HasLoggedOut old new result = HasCalled (logout_by old.place) 0x83 old new (spelled (request_frame request.Logout 0 old.tag [])) result
 
--- a step of a run: what came of it, by the initiator before and after it
-abbrev pub Step : Type 0 → Type 1
-Step T = Link → Link → Result T PersistExit → Type 0
+-- a step of a run: what came of it, by the state before it and after it
+abbrev pub Step : Type 0 → Type 0 → Type 1
+Step S T = S → S → Result T PersistExit → Type 0
 
 -- a fault of the link ends the run
-abbrev pub Linked : (Link → Link → Result Unit LinkFault → Type 0) → Step Unit
+abbrev pub Linked : (Link → Link → Result Unit LinkFault → Type 0) → Step Link Unit
 Linked call old new result = (r : Result Unit LinkFault) × call old new r × (result ≡ linked_by r)
 
 -- and so does an answer that isn't GOOD
-abbrev pub Judged : (Link → Link → Result Answer LinkFault → Type 0) → Step Answer
+abbrev pub Judged : (Link → Link → Result Answer LinkFault → Type 0) → Step Link Answer
 Judged call old new result = (r : Result Answer LinkFault) × call old new r × (result ≡ judged_by r)
 
-abbrev pub GoesOn : {T U : Type 0} → (T → Step U) → Result T PersistExit → Step U
+abbrev pub GoesOn : {S T U : Type 0} → (T → Step S U) → Result T PersistExit → Step S U
 GoesOn next (Ok v) mid new result = next v mid new result
 GoesOn next (Err e) mid new result = (new ≡ mid) × (result ≡ Err e)
 
 -- one step, and what follows it unless it ends the run
-abbrev pub Then : {T U : Type 0} → Step T → (T → Step U) → Step U
-Then {T} first next old new result = (mid : Link) × (r : Result T PersistExit) × first old mid r × GoesOn next r mid new result
+abbrev pub Then : {S T U : Type 0} → Step S T → (T → Step S U) → Step S U
+Then {S} {T} first next old new result = (mid : S) × (r : Result T PersistExit) × first old mid r × GoesOn next r mid new result
 
 -- it logs in, and asks until the target is ready
-abbrev pub Enters : Nexus → Step Answer
+abbrev pub Enters : Nexus → Step Link Answer
 Enters nexus = Then (Linked (HasLoggedIn nexus)) (λ u. Judged (IsReady 9 code.Code.NO_SENSE))
 
 -- it dials before
-abbrev pub Opens : Wanted → Step Answer
+abbrev pub Opens : Wanted → Step Link Answer
 Opens w = Then (Linked (HasDialled w.address)) (λ u. Enters w.nexus)
 
-abbrev pub Inquires : Step Answer
+abbrev pub Inquires : Step Link Answer
 Inquires = Judged (λ old new r. HasAnswered old new inquiry r)
 
-abbrev pub Acts : Wanted → Step Answer
+abbrev pub Acts : Wanted → Step Link Answer
 Acts w = Judged (λ old new r. HasAnswered old new (order_of w.action w.fields) r)
 
-abbrev pub Closes : Step Unit
+abbrev pub Closes : Step Link Unit
 Closes = Linked HasLoggedOut

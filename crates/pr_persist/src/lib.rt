@@ -6,10 +6,14 @@ mod digits;
 mod exit;
 mod full;
 mod numbers;
+mod persist;
 mod plan;
 mod printing;
+mod running;
+mod showing;
 mod steps;
 mod texts;
 mod words;
 
 pub use exit::PersistExit;
+pub use persist::persist_over;

@@ -1,0 +1,14 @@
+use Rattle.std.proofs.Common.{refl}
+use Rattle.std.specs.Prelude.{Ok, Err}
+use Rattle.pr_persist.specs.Asking.{wanted_of}
+use Rattle.pr_persist.specs.Runs.{Opens, Inquires, Acts, Closes}
+use Rattle.pr_persist.specs.Shows.{inquiry_text}
+use Rattle.pr_persist.specs.Whole.{Quiet, Showing, Looks, Tells, ActsAndTells, Finishes, Continues}
+use Rattle.pr_persist.proofs.Stepping.{ended, went, told}
+use Rattle.pr_persist.proofs.running.finish.Goals as goal
+
+pub returns-in-Ok : goal.returns-in-Ok
+returns-in-Ok g c = went (ActsAndTells (wanted_of c.args.plan.now)) (λ u. Quiet Closes) _ _ _ tt _ (told (ActsAndTells (wanted_of c.args.plan.now)) _ _ c.act_and_tell.result (Ok tt) c.in-Ok.is c.act_and_tell.ensures) (c.close.ensures, refl)
+
+pub returns-in-Err : goal.returns-in-Err
+returns-in-Err g c = ended (ActsAndTells (wanted_of c.args.plan.now)) (λ u. Quiet Closes) _ _ c.in-Err.exit (told (ActsAndTells (wanted_of c.args.plan.now)) _ _ c.act_and_tell.result (Err c.in-Err.exit) c.in-Err.is c.act_and_tell.ensures)

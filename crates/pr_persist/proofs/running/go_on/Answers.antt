@@ -1,0 +1,14 @@
+use Rattle.std.proofs.Common.{refl}
+use Rattle.std.specs.Prelude.{Ok, Err}
+use Rattle.pr_persist.specs.Asking.{wanted_of}
+use Rattle.pr_persist.specs.Runs.{Opens, Inquires, Acts, Closes}
+use Rattle.pr_persist.specs.Shows.{inquiry_text}
+use Rattle.pr_persist.specs.Whole.{Quiet, Showing, Looks, Tells, ActsAndTells, Finishes, Continues}
+use Rattle.pr_persist.proofs.Stepping.{ended, went, told}
+use Rattle.pr_persist.proofs.running.go_on.Goals as goal
+
+pub returns-in-Ok : goal.returns-in-Ok
+returns-in-Ok g c = went (Looks c.args.plan.now.inquires) (λ u. Finishes (wanted_of c.args.plan.now)) _ _ _ tt _ (told (Looks c.args.plan.now.inquires) _ _ c.look.result (Ok tt) c.in-Ok.is c.look.ensures) c.finish.ensures
+
+pub returns-in-Err : goal.returns-in-Err
+returns-in-Err g c = ended (Looks c.args.plan.now.inquires) (λ u. Finishes (wanted_of c.args.plan.now)) _ _ c.in-Err.exit (told (Looks c.args.plan.now.inquires) _ _ c.look.result (Err c.in-Err.exit) c.in-Err.is c.look.ensures)

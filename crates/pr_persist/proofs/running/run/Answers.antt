@@ -1,0 +1,14 @@
+use Rattle.std.proofs.Common.{refl}
+use Rattle.std.specs.Prelude.{Ok, Err}
+use Rattle.pr_persist.specs.Asking.{wanted_of}
+use Rattle.pr_persist.specs.Runs.{Opens, Inquires, Acts, Closes}
+use Rattle.pr_persist.specs.Shows.{inquiry_text}
+use Rattle.pr_persist.specs.Whole.{Quiet, Showing, Looks, Tells, ActsAndTells, Finishes, Continues}
+use Rattle.pr_persist.proofs.Stepping.{ended, went, told}
+use Rattle.pr_persist.proofs.running.run.Goals as goal
+
+pub returns-in-Ok : goal.returns-in-Ok
+returns-in-Ok g c = went (Quiet (Opens (wanted_of c.args.plan.now))) (λ a. Continues (wanted_of c.args.plan.now)) _ _ _ c.in-Ok.field-0 _ (told (Opens (wanted_of c.args.plan.now)) _ _ c.open.result (Ok c.in-Ok.field-0) c.in-Ok.is c.open.ensures, refl) c.go_on.ensures
+
+pub returns-in-Err : goal.returns-in-Err
+returns-in-Err g c = ended (Quiet (Opens (wanted_of c.args.plan.now))) (λ a. Continues (wanted_of c.args.plan.now)) _ _ c.in-Err.exit (told (Opens (wanted_of c.args.plan.now)) _ _ c.open.result (Err c.in-Err.exit) c.in-Err.is c.open.ensures, refl)
