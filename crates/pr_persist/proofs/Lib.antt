@@ -8,3 +8,4 @@ pub mod Putting
 pub mod Zeros
 pub mod Printed
 pub mod Shown
+pub mod Refusing

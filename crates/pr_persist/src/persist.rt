@@ -1,4 +1,4 @@
-ghost use Rattle.std.specs.Prelude.{◌≡◌, ◌<◌, map};
+ghost use Rattle.std.specs.Prelude.{◌≡◌, ◌<◌, None, map};
 ghost use Rattle.pr_io.specs.Told.{told_sink};
 ghost use Rattle.pr_initiator.specs.Links.{link_of};
 ghost use Rattle.pr_persist.specs.Asking.{wanted_by, wanted_of};
@@ -37,9 +37,8 @@ fn run_over<W: Wire + Drop, K: Sink>(
     (exit_of(ran), initiator.into_wire())
 }
 
-/// Does what the words ask of a target over a wire, prints what it answered, and gives the wire back.
-/// The first word is the command's name. All memory is taken before anything is dialled.
-pub fn persist_over<W: Wire + Drop, K: Sink>(
+/// Reads the words, and runs what they ask for.
+fn read_and_run<W: Wire + Drop, K: Sink>(
     alloc: Global,
     words: &[&str],
     wire: W,
@@ -57,4 +56,21 @@ pub fn persist_over<W: Wire + Drop, K: Sink>(
         Err(Refusal::BadWords) => (PersistExit::BadWords, wire),
         Err(Refusal::NoMemory) => (PersistExit::NoMemory, wire),
     }
+}
+
+/// Does what the words ask of a target over a wire, prints what it answered, and gives the wire back.
+/// The first word is the command's name. All memory is taken before anything is dialled.
+pub fn persist_over<W: Wire + Drop, K: Sink>(
+    alloc: Global,
+    words: &[&str],
+    wire: W,
+    sink: &mut K,
+) -> (PersistExit, W)
+    ensures ends { Ends (wanted_by (map (λ w. w.now) words.now)) (told_wire W.Wire wire)
+        (told_wire W.Wire result.1) (told_sink K.Sink sink.old) (told_sink K.Sink sink.new)
+        result.0 }
+    ensures words { result.0 ≡ PersistExit.BadWords →
+        wanted_by (map (λ w. w.now) words.now) ≡ None }
+{
+    read_and_run(alloc, words, wire, sink)
 }
