@@ -17,3 +17,6 @@ mod words;
 
 pub use exit::PersistExit;
 pub use persist::persist_over;
+
+#[cfg(test)]
+mod tests;
