@@ -1,5 +1,5 @@
 -- What the simple command makes of the words.
-use Rattle.std.proofs.Common.{◌≡◌, ◌∙◌, ℕ, true, List, [], ap, sym, subst, inl, inr, refl}
+use Rattle.std.proofs.Common.{◌≡◌, ◌∙◌, true, List, [], ap, sym, subst, inl, inr, refl}
 use Rattle.std.specs.Prelude.{Result, Ok, Err, IfOk, IfErr, ◌⊎◌}
 use Rattle.clap.specs.Words.{App, Text, Kinds, FailsBy, HasMatchesOf, IsAmong, fault_of, found_of, is_simple, is_simple_and_free, kind_of, matches_of, rows_of}
 use Rattle.clap.specs.declared.error.Error.{Error}

@@ -1,13 +1,13 @@
 -- Numbers among the words.
-use Rattle.std.proofs.Common.{◌≡◌, ◌∙◌, ◌+◌, ◌-◌, ◌≤◌, ◌<◌, ◌^◌, ℕ, Bool, true, false, cond, ltb, ◌&&◌, ◌||◌, ◌==◌, not, List, [], ◌∷◌, ◌++◌, length, take, drop, replicate, slice_index, ap, ap₂, sym, subst, refl, arith, inl, inr}
-use Rattle.std.specs.Prelude.{Result, Ok, Err, Option, Some, None, MatchResult, nat_lt, if◌then◌else◌}
+use Rattle.std.proofs.Common.{◌≡◌, ◌∙◌, ◌-◌, ◌≤◌, ◌<◌, ℕ, Bool, true, false, cond, ltb, ◌&&◌, ◌||◌, ◌==◌, not, List, [], ◌∷◌, ◌++◌, length, take, drop, replicate, slice_index, ap, sym, subst, refl, arith}
+use Rattle.std.specs.Prelude.{Result, Ok, Err, Some, None, MatchResult, nat_lt}
 use Rattle.std.specs.Result.{result_ok, OkIff}
 use Rattle.std.specs.List.{list_all}
 use Rattle.std.specs.Int.{w64, from_be_bytes}
 use Rattle.std.specs.Char.{digit_value}
 use Rattle.std.specs.Str.Parse.{AllDigits, ParsesUnsigned, IsNumeral, digits_value, without_leading_plus}
-use Rattle.std.proofs.lemmas.Bool.{lt-ltb, ltb-true, cases_lt, le-ltb}
-use Rattle.std.proofs.lemmas.List.{take-replicate, length-replicate, length-drop, drop_all, append-nil}
+use Rattle.std.proofs.lemmas.Bool.{lt-ltb, ltb-true, le-ltb}
+use Rattle.std.proofs.lemmas.List.{take-replicate, length-drop, drop_all, append-nil}
 use borrow.Rule.Slice.PartMut.{put_mid}
 use Rattle.hex.specs.Hex.{decode_sized}
 use Rattle.hex.specs.declared.error.FromHexError.{FromHexError}

@@ -1,6 +1,6 @@
 -- Text that was printed, or a front of it.
-use Rattle.std.proofs.Common.{◌≡◌, ◌∙◌, ◌==◌, ◌++◌, ◌+◌, ◌≤◌, ◌<◌, ℕ, false, List, [], ◌∷◌, length, take, get_or, ap, sym, subst, refl, arith}
-use Rattle.std.specs.Prelude.{Result, Ok, Err, OnOk, OnErr, Option, Some, codes, decimal}
+use Rattle.std.proofs.Common.{◌≡◌, ◌∙◌, ◌++◌, ◌+◌, ◌≤◌, ◌<◌, ℕ, List, [], ◌∷◌, length, take, sym, subst, refl, arith}
+use Rattle.std.specs.Prelude.{Result, Ok, Err, OnOk, OnErr, Some, codes, decimal}
 use Rattle.std.specs.List.{concat, flat_map, slice_get}
 use Rattle.std.proofs.lemmas.Bool.{ne_eqb}
 use Rattle.std.proofs.lemmas.Option.{get_or_from_slice_get}

@@ -1,11 +1,11 @@
 -- Text that is put piece by piece.
-use Rattle.std.proofs.Common.{◌≡◌, ◌∙◌, ◌+◌, ◌≤◌, ◌<◌, ℕ, suc, List, [], ◌∷◌, ◌++◌, length, take, drop, get_or, Option, sym, ap, subst, refl, add-one, append_assoc, arith}
+use Rattle.std.proofs.Common.{◌≡◌, ◌∙◌, ◌+◌, ◌≤◌, ◌<◌, ℕ, suc, List, [], ◌∷◌, ◌++◌, length, take, drop, get_or, Option, sym, ap, subst, add-one}
 use Rattle.std.specs.List.{flat_map}
 use Rattle.std.proofs.Math.Seq.{drop-cons, take-suc}
 use Rattle.std.proofs.lemmas.Grind.{flat_map-append}
 use Rattle.std.proofs.lemmas.List.{append-nil, take-append-drop, take_all}
 use Rattle.pr_io.specs.Streams.{Put, PutSome}
-use Rattle.pr_io.proofs.Pieces.{put_more, put_nothing}
+use Rattle.pr_io.proofs.Pieces.{put_more}
 use Rattle.pr_io.proofs.Sent.{some_first, some_second}
 
 -- a list of texts, cut at one of them

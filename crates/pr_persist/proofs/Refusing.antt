@@ -1,5 +1,5 @@
 -- A run never ends as if its words were bad, and never without memory.
-use Rattle.std.proofs.Common.{◌≡◌, ◌∙◌, ℕ, Bool, true, false, cond, List, sym, subst, refl, inl, inr}
+use Rattle.std.proofs.Common.{◌≡◌, ℕ, Bool, true, false, cond, List, sym, subst, refl, inl, inr}
 use Rattle.std.specs.Prelude.{Result, Ok, Err, Option, Some, None, ◌==◌}
 use Rattle.pr_words.specs.declared.code.Sense.{Sense}
 use Rattle.pr_io.specs.declared.outside.Failed.{Failed}
@@ -12,10 +12,10 @@ use Rattle.pr_persist.specs.declared.exit.PersistExit.TheVariants as exit
 use Rattle.pr_persist.specs.declared.plan.Action.{Action}
 use Rattle.pr_persist.specs.declared.plan.Action.TheVariants.{In, Out}
 use Rattle.pr_persist.specs.Asking.{Wanted}
-use Rattle.pr_persist.specs.Exits.{checked_by, good_by, judged_by, linked_by}
-use Rattle.pr_persist.specs.Runs.{Step, Then, GoesOn, Linked, Judged, Opens, Enters, Inquires, Acts, Closes}
+use Rattle.pr_persist.specs.Exits.{checked_by, judged_by, linked_by}
+use Rattle.pr_persist.specs.Runs.{Step, Then, Linked, Judged, Opens, Inquires, Acts, Closes}
 use Rattle.pr_persist.specs.Shows.{HasShown, written_by, inquiry_text, reply_text}
-use Rattle.pr_persist.specs.Whole.{At, Quiet, Showing, Skips, Looks, Tells, ActsAndTells, Finishes, Continues, Runs, exit_of, ToldWire, Ends, HasRun}
+use Rattle.pr_persist.specs.Whole.{At, Quiet, Showing, Skips, Looks, Tells, ActsAndTells, Finishes, Runs, exit_of, ToldWire, Ends}
 
 -- an exit of a run
 abbrev pub IsOfRun : PersistExit → Type 0

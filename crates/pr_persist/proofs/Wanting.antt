@@ -1,6 +1,6 @@
 -- What the words ask for, by what was found.
-use Rattle.std.proofs.Common.{◌≡◌, ◌∙◌, ap, sym, ℕ, Bool, List, [], ◌∷◌, refl}
-use Rattle.std.specs.Prelude.{Option, Some, None, Result, Ok, Err}
+use Rattle.std.proofs.Common.{◌≡◌, ◌∙◌, ap, sym, List, [], ◌∷◌, refl}
+use Rattle.std.specs.Prelude.{Option, None}
 use Rattle.clap.specs.Words.{Row, Text, Kinds}
 use Rattle.pr_persist.specs.Arguments.{faults_in, rows_in}
 use Rattle.pr_persist.specs.Asking.{Wanted, wanted_in, wanted_by, wanted_unless}

@@ -1,6 +1,5 @@
 -- What the words of `persist` ask for (after sg_persist; the added rules are this project's own).
-use Rattle.std.specs.Prelude.{◌≡◌, ℕ, nat_lt, not, Bool, false, List, [], ◌∷◌, Option, Some, None, codes, if◌then◌else◌, option_and_then}
-use Rattle.std.specs.Option.{option_map_or}
+use Rattle.std.specs.Prelude.{ℕ, nat_lt, not, Bool, false, List, [], ◌∷◌, Option, Some, None, codes, if◌then◌else◌}
 use Rattle.std.specs.Str.{bytes_eq}
 use Rattle.clap.specs.Words.{Row, Text, Kinds, first_of}
 use Rattle.pr_words.specs.declared.nexus.Nexus.{Nexus}

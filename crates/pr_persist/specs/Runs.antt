@@ -1,5 +1,5 @@
 -- What a run sends, and how it goes on (this project's own; the commands are SPC-4's).
-use Rattle.std.specs.Prelude.{◌≡◌, ℕ, ◌≤◌, Bool, false, List, [], Result, Ok, Err, OnOk, OnErr, IfErr}
+use Rattle.std.specs.Prelude.{◌≡◌, ℕ, ◌≤◌, false, List, [], Result, Ok, Err, OnOk, OnErr, IfErr}
 use Rattle.pr_words.specs.declared.code.TheConstants as code
 use Rattle.pr_words.specs.declared.nexus.Nexus.{Nexus}
 use Rattle.pr_words.specs.declared.service.OutService.{OutService}

@@ -1,5 +1,5 @@
 -- What is printed (after sg_persist; the lines are this project's own).
-use Rattle.std.specs.Prelude.{ℕ, ◌+◌, ◌/◌, ◌%◌, ◌==◌, ◌&&◌, nat_le, Bool, List, [], ◌∷◌, ◌++◌, length, map, take, drop, slice_range, Option, Some, None, codes, decimal, if◌then◌else◌}
+use Rattle.std.specs.Prelude.{ℕ, ◌/◌, ◌%◌, ◌==◌, ◌&&◌, nat_le, Bool, List, [], ◌∷◌, ◌++◌, length, map, slice_range, Option, Some, None, codes, decimal, if◌then◌else◌}
 use Rattle.std.specs.List.{concat, flat_map}
 use Rattle.std.specs.Int.{w16, w64, to_be_bytes}
 use Rattle.hex.specs.Hex.{encode_lower}

@@ -1,5 +1,5 @@
-use Rattle.std.proofs.Common.{◌≡◌, ◌∙◌, ap, map, List, ℕ, codes}
-use Rattle.clap.specs.Words.{App, Text, app_of, new_app}
+use Rattle.std.proofs.Common.{◌≡◌, ◌∙◌, ap, codes}
+use Rattle.clap.specs.Words.{App, app_of, new_app}
 use Rattle.clap.specs.Simple.{app_of_fields}
 use Rattle.pr_persist.specs.Arguments.{persist_app, with_rules, without_help, in_rules, out_rules, other_rules}
 use Rattle.pr_persist.proofs.Matching.{taken, found, refused}

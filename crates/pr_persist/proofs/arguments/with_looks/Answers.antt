@@ -1,5 +1,4 @@
-use Rattle.std.proofs.Common.{◌≡◌, refl}
-use Rattle.clap.specs.Words.{app_of, with_rule}
+use Rattle.std.proofs.Common.{refl}
 use Rattle.pr_persist.proofs.Adding.{added}
 use Rattle.pr_persist.proofs.arguments.with_looks.Goals as goal
 

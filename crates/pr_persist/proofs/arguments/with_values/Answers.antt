@@ -1,5 +1,5 @@
-use Rattle.std.proofs.Common.{◌≡◌, ◌∙◌, refl, rules, ap, codes}
-use Rattle.clap.specs.Words.{Rule, app_of, rule_of, with_rule}
+use Rattle.std.proofs.Common.{◌≡◌, refl, rules, codes}
+use Rattle.clap.specs.Words.{rule_of}
 use Rattle.pr_persist.specs.Arguments.{bare_rule, needed, value_rule}
 use Rattle.pr_persist.proofs.Adding.{added}
 use Rattle.pr_persist.proofs.arguments.with_values.Goals as goal

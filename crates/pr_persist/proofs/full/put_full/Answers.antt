@@ -1,9 +1,7 @@
-use Rattle.std.proofs.Common.{◌∙◌, ◌≡◌, ℕ, List, length, ap, sym, subst}
-use Rattle.std.specs.Prelude.{Result, Ok, Err}
+use Rattle.std.proofs.Common.{◌∙◌, ℕ, ap}
+use Rattle.std.specs.Prelude.{Ok, Err}
 use Rattle.std.specs.List.{flat_map}
-use Rattle.pr_io.specs.declared.outside.Failed.{Failed}
 use Rattle.pr_io.specs.Told.{told_sink}
-use Rattle.pr_persist.specs.Prints.{HasPrinted}
 use Rattle.pr_persist.specs.Texts.{full_head, full_line}
 use Rattle.pr_persist.proofs.Printed.{then_printed, first_failed, at_result}
 use Rattle.pr_persist.proofs.full.put_full.Goals as goal

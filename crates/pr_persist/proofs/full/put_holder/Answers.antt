@@ -1,4 +1,4 @@
-use Rattle.std.proofs.Common.{◌∙◌, ◌%◌, ℕ, Bool, ap, sym, refl}
+use Rattle.std.proofs.Common.{◌∙◌, ℕ, Bool, ap, sym, refl}
 use Rattle.std.specs.Prelude.{codes}
 use Rattle.pr_io.specs.Told.{told_sink}
 use Rattle.pr_persist.specs.Texts.{numbered, line_end, holder_part}

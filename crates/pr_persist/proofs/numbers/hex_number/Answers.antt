@@ -1,4 +1,4 @@
-use Rattle.std.proofs.Common.{◌≡◌, ◌∙◌, ◌==◌, ◌-◌, false, length, replicate, sym, ap, subst, rules, List, ℕ}
+use Rattle.std.proofs.Common.{◌≡◌, ◌∙◌, ◌==◌, ◌-◌, false, length, replicate, sym, ap, List, ℕ}
 use Rattle.std.specs.Prelude.{Some}
 use borrow.Rule.Slice.PartMut.{put_mid}
 use Rattle.pr_persist.proofs.Numbering.{hex_is, hex_not}

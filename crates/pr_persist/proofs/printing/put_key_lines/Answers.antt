@@ -1,13 +1,10 @@
-use Rattle.std.proofs.Common.{◌∙◌, ◌<◌, ◌≤◌, ℕ, length, refl, ap, sym, subst, arith}
-use Rattle.std.specs.Prelude.{Result, Ok, Err}
-use Rattle.std.proofs.lemmas.Option.{get_or_from_slice_get}
+use Rattle.std.proofs.Common.{◌<◌, ◌≤◌, length, refl, subst, arith}
+use Rattle.std.specs.Prelude.{Result}
 use Rattle.pr_io.specs.declared.outside.Failed.{Failed}
 use Rattle.pr_io.specs.Told.{told_sink}
-use Rattle.pr_words.specs.declared.nexus.Key.{Key}
 use Rattle.pr_io.proofs.Pieces.{put_nothing}
 use Rattle.pr_persist.specs.Prints.{HasPrinted}
 use Rattle.pr_persist.specs.Texts.{key_line}
-use Rattle.pr_persist.proofs.Putting.{next_put, next_failed, all_put}
 use Rattle.pr_persist.proofs.Printed.{lines_went, lines_failed, lines_done}
 use Rattle.pr_persist.proofs.printing.put_key_lines.Goals as goal
 

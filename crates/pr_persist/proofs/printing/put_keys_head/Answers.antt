@@ -1,5 +1,5 @@
-use Rattle.std.proofs.Common.{◌≡◌, ◌≢◌, ◌∙◌, ◌∷◌, [], ◌++◌, ℕ, List, ap, sym, subst, arith}
-use Rattle.std.specs.Prelude.{codes, decimal}
+use Rattle.std.proofs.Common.{◌≢◌, ◌∙◌, ◌∷◌, [], ◌++◌, ℕ, List, ap, sym, subst, arith}
+use Rattle.std.specs.Prelude.{codes}
 use Rattle.std.specs.List.{concat}
 use Rattle.pr_io.specs.Told.{told_sink}
 use Rattle.pr_persist.specs.Prints.{HasPrinted}

@@ -1,4 +1,4 @@
-use Rattle.std.proofs.Common.{◌∙◌, ℕ, List, refl, arith}
+use Rattle.std.proofs.Common.{◌∙◌, ℕ, List, refl}
 use Rattle.std.specs.Borrow.{Bor}
 use Rattle.pr_io.proofs.Pieces.{put_nothing}
 use Rattle.pr_io.proofs.Sent.{always_err}

@@ -1,9 +1,8 @@
 use Rattle.std.proofs.Common.{refl}
 use Rattle.std.specs.Prelude.{Ok, Err}
 use Rattle.pr_persist.specs.Asking.{wanted_of}
-use Rattle.pr_persist.specs.Runs.{Opens, Inquires, Acts, Closes}
-use Rattle.pr_persist.specs.Shows.{inquiry_text}
-use Rattle.pr_persist.specs.Whole.{Quiet, Showing, Looks, Tells, ActsAndTells, Finishes, Continues}
+use Rattle.pr_persist.specs.Runs.{Acts}
+use Rattle.pr_persist.specs.Whole.{Quiet, Tells}
 use Rattle.pr_persist.proofs.Stepping.{ended, went, told}
 use Rattle.pr_persist.proofs.running.act_and_tell.Goals as goal
 

@@ -1,9 +1,6 @@
-use Rattle.std.proofs.Common.{refl}
 use Rattle.std.specs.Prelude.{Ok, Err}
 use Rattle.pr_persist.specs.Asking.{wanted_of}
-use Rattle.pr_persist.specs.Runs.{Opens, Inquires, Acts, Closes}
-use Rattle.pr_persist.specs.Shows.{inquiry_text}
-use Rattle.pr_persist.specs.Whole.{Quiet, Showing, Looks, Tells, ActsAndTells, Finishes, Continues}
+use Rattle.pr_persist.specs.Whole.{Looks, Finishes}
 use Rattle.pr_persist.proofs.Stepping.{ended, went, told}
 use Rattle.pr_persist.proofs.running.go_on.Goals as goal
 

@@ -1,4 +1,4 @@
-use Rattle.std.proofs.Common.{◌≡◌, false, length, ltb, refl}
+use Rattle.std.proofs.Common.{◌≡◌, false, length, refl}
 use Rattle.std.specs.Prelude.{nat_lt}
 use Rattle.std.proofs.lemmas.Bool.{le-ltb}
 use Rattle.pr_io.specs.Told.{told_sink}

@@ -1,4 +1,3 @@
-use Rattle.std.proofs.Common.{refl}
 use Rattle.std.specs.Prelude.{Ok, Err}
 use Rattle.pr_words.specs.declared.code.TheConstants as code
 use Rattle.pr_initiator.specs.Commands.{IsReady}

@@ -1,4 +1,3 @@
-use Rattle.std.proofs.Common.{refl}
 use Rattle.std.specs.Prelude.{Ok, Err}
 use Rattle.pr_persist.specs.Runs.{HasDialled, Enters, Linked}
 use Rattle.pr_persist.proofs.Stepping.{ended, went, linked}

@@ -1,4 +1,4 @@
-use Rattle.std.proofs.Common.{◌≡◌, sym, inl, inr}
+use Rattle.std.proofs.Common.{inl, inr}
 use Rattle.pr_persist.proofs.Wanting.{asked, refused}
 use Rattle.pr_persist.proofs.words.plan_of.Goals as goal
 

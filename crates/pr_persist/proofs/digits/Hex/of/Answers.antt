@@ -1,4 +1,4 @@
-use Rattle.std.proofs.Common.{◌∙◌, ap, List, ℕ}
+use Rattle.std.proofs.Common.{◌∙◌, ap}
 use Rattle.hex.specs.Hex.{encode_lower}
 use Rattle.pr_persist.specs.Texts.{hex_word, without_zeros}
 use Rattle.pr_persist.proofs.digits.Hex.of.Goals as goal
