@@ -73,6 +73,11 @@ fn written(alloc: Global, size: u16, lacking: usize) -> Result<(MemSink, MemMedi
     Ok((sink, medium))
 }
 
+/// Whether each byte of the medium is this one.
+fn is_all(medium: &MemMedium, byte: u8) -> bool {
+    medium.bytes().iter().all(|found| *found == byte)
+}
+
 #[test]
 fn the_longest_frame_is_one_command_however_it_is_cut(rt: HostRuntime) -> Result<(), Fail> {
     let alloc = rt.alloc();
@@ -81,15 +86,13 @@ fn the_longest_frame_is_one_command_however_it_is_cut(rt: HostRuntime) -> Result
         &["00000010", ACCEPTED, "00000022", POWER_ON, "00000010", DONE],
     )?;
     let short = bytes_of(alloc, &["00000010", ACCEPTED, "00000022", POWER_ON])?;
-    let new = vec![in alloc; 0xA5u8; 524_288]?;
-    let old = vec![in alloc; 0u8; 524_288]?;
     for size in [1u16, 7, 65_535] {
         let (sink, medium) = written(alloc, size, 0)?;
         assert!(rt; sink.bytes() == whole.as_slice(), "in pieces of {size}");
-        assert!(rt; medium.bytes() == new.as_slice(), "in pieces of {size}");
+        assert!(rt; is_all(&medium, 0xA5), "in pieces of {size}");
         let (sink, medium) = written(alloc, size, 1)?;
         assert!(rt; sink.bytes() == short.as_slice(), "in pieces of {size}");
-        assert!(rt; medium.bytes() == old.as_slice(), "in pieces of {size}");
+        assert!(rt; is_all(&medium, 0), "in pieces of {size}");
     }
     Ok(())
 }
