@@ -1,12 +1,13 @@
-ghost use Rattle.std.specs.Prelude.{◌≡◌, ℕ, ◌+◌, ◌≤◌, ◌++◌, List, [], take, drop, length, IfOk};
+ghost use Rattle.std.specs.Prelude.{◌≡◌, ℕ, ◌+◌, ◌%◌, ◌^◌, ◌≤◌, ◌++◌, List, [], None, take, drop, length, IfOk, IfSome};
 ghost use Rattle.circular_buffer.specs.Buffer.{buffer};
 ghost use Rattle.pr_words.specs.Fields.{number32_at};
 ghost use Rattle.pr_words.specs.declared.limits.TheConstants.{BODY, FRAME_LENGTH, HELD};
-ghost use Rattle.pr_grammar.specs.Frames.{checked};
-ghost use Rattle.pr_link.specs.Streams.{Feeds, Gives, Checks};
+ghost use Rattle.pr_grammar.specs.Frames.{Whole, front, checked};
+ghost use Rattle.pr_link.specs.Streams.{Feeds, Gives, GivesAt, Checks, IsFormed, frame_of};
 
 use crate::bodies::{is_received, is_well_formed};
-use crate::{Frame, Got};
+use crate::layout::write_front;
+use crate::{Frame, Front, Got};
 use circular_buffer::HeapCircularBuffer;
 use pr_words::{FRAME_HEAD, FRAME_LENGTH, HELD, Side, get_u16, get_u32};
 use std::alloc::{AllocError, Global};
@@ -71,7 +72,6 @@ impl Deframer {
     ///
     /// `buf` has room for the longest frame; what it holds behind the body, or without a frame, is free. After a broken
     /// rule nothing is held, and each call gives the same answer.
-    #[tactic(auto, unfolding(pr_grammar::specs::Frames::front))]
     pub fn next(&mut self, buf: &mut [u8]) -> Got
         requires { HELD ≤ length buf.old }
         ensures { Gives (stream_of self.old) result (stream_of self.new) buf.new }
@@ -82,6 +82,18 @@ impl Deframer {
                 reason,
             };
         }
+        match take_whole(self.side, &mut self.held, buf) {
+            Some(frame) => self.pass(frame),
+            None => self.next_in_parts(buf),
+        }
+    }
+
+    /// What stands at the front, wherever it stands in the ring.
+    #[tactic(auto, unfolding(pr_grammar::specs::Frames::front))]
+    fn next_in_parts(&mut self, buf: &mut [u8]) -> Got
+        requires room { HELD ≤ length buf.old }
+        ensures { GivesAt (stream_of self.old) (front self.old.side (held_of self.old)) result (stream_of self.new) buf.new }
+    {
         let held = self.held.len();
         if held < 4 {
             return Got::Need(4 - held);
@@ -95,12 +107,19 @@ impl Deframer {
             return Got::Need(4 + len - held);
         }
         match take_frame(self.side, &mut self.held, len, buf) {
-            Ok(frame) => {
-                self.place = self.place.wrapping_add((FRAME_HEAD + frame.body) as u64);
-                Got::Frame(frame)
-            }
+            Ok(frame) => self.pass(frame),
             Err(reason) => self.break_at(reason),
         }
+    }
+
+    /// A frame was taken: its bytes are behind.
+    fn pass(&mut self, frame: Frame) -> Got
+        requires { frame.body ≤ BODY }
+        ensures answer { result ≡ Got.Frame frame }
+        ensures stream { stream_of self.new ≡ record (stream_of self.old) { place = (place_of self.old + (12 + frame.body)) % 2 ^ 64 } }
+    {
+        self.place = self.place.wrapping_add((FRAME_HEAD + frame.body) as u64);
+        Got::Frame(frame)
     }
 
     /// Begins with the first byte of another stream: nothing is held, and no rule is broken.
@@ -123,6 +142,25 @@ impl Deframer {
             reason,
         }
     }
+}
+
+/// Takes a frame that stands whole in the first piece of the ring, with one copy of its body.
+fn take_whole(side: Side, held: &mut HeapCircularBuffer<u8>, buf: &mut [u8]) -> Option<Frame>
+    requires { BODY ≤ length buf.old }
+    ensures taken { IfSome result (λ g. (front side held.old.items ≡ Whole (frame_of g (take g.body buf.new)) held.new.items)
+        × IsFormed side g buf.new) }
+    ensures none { result ≡ None → held.new ≡ held.old }
+    ensures capacity { held.new.capacity ≡ held.old.capacity }
+    ensures fewer { length held.new.items ≤ length held.old.items }
+{
+    let (piece, _) = held.as_slices();
+    let Front::Whole(frame) = Front::of(side, piece) else {
+        return None;
+    };
+    let size = FRAME_HEAD + frame.body;
+    write_front(buf, &piece[FRAME_HEAD..size]);
+    held.truncate_front(held.len() - size);
+    Some(frame)
 }
 
 fn front_length(held: &HeapCircularBuffer<u8>) -> u32
