@@ -1,9 +1,9 @@
-ghost use Rattle.std.specs.Prelude.{◌≡◌};
+ghost use Rattle.std.specs.Prelude.{◌≡◌, ◌+◌, ◌≤◌, length, slice_range};
 ghost use Rattle.std.specs.List.{list_all};
 ghost use Rattle.pr_grammar.specs.Bodies.{is_zero, is_login_body, is_command_body, is_login_reply, is_command_reply, is_reject};
 ghost use Rattle.pr_grammar.specs.Frames.{is_kind, is_body};
 
-use pr_words::Side;
+use pr_words::{Side, get_u64};
 
 fn are_zeros(bytes: &[u8]) -> bool
     ensures { result ≡ list_all is_zero bytes.now }
@@ -15,6 +15,18 @@ fn is_login(body: &[u8]) -> bool
     ensures { result ≡ is_login_body body.now }
 {
     body.len() == 12 && body[1] == 0
+}
+
+/// Whether the bytes behind a CDB of this size are zeros, the last eight of which are looked at together where they can be.
+fn is_padded(body: &[u8], size: usize) -> bool
+    requires long { 20 ≤ length body.now }
+    requires few { size ≤ 16 }
+    ensures { result ≡ list_all is_zero (slice_range body.now (4 + size) 20) }
+{
+    if size > 8 {
+        return are_zeros(&body[4 + size..20]);
+    }
+    are_zeros(&body[4 + size..12]) && get_u64(body, 12) == 0
 }
 
 fn is_command(body: &[u8]) -> bool
@@ -30,7 +42,7 @@ fn is_command(body: &[u8]) -> bool
     if !are_zeros(&body[1..4]) {
         return false;
     }
-    are_zeros(&body[4 + size..20])
+    is_padded(body, size)
 }
 
 fn answers_login(body: &[u8]) -> bool

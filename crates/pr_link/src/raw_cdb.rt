@@ -1,4 +1,5 @@
-ghost use Rattle.std.specs.Prelude.{◌≡◌, ◌≤◌, ◌-◌, ◌++◌, length, replicate};
+ghost use Rattle.std.specs.Prelude.{◌≡◌, ◌≤◌, ◌-◌, ◌++◌, true, length, replicate};
+ghost use Rattle.pr_grammar.specs.Bodies.{is_command_body, command_cdb};
 
 use std::marker::Model;
 
@@ -44,6 +45,19 @@ impl RawCdb {
         let mut bytes = [0; 16];
         bytes[..size].copy_from_slice(cdb);
         RawCdb { bytes, size }
+    }
+
+    /// The CDB in the body of a Command, with the zeros up to its 16 bytes.
+    pub(crate) fn in_command(body: &[u8]) -> RawCdb
+        requires { is_command_body body.now ≡ true }
+        ensures { result ≡ command_cdb body.now }
+    {
+        let mut bytes = [0; 16];
+        bytes.copy_from_slice(&body[4..20]);
+        RawCdb {
+            bytes,
+            size: body[0] as usize,
+        }
     }
 
     /// Its bytes, 1 to 16.

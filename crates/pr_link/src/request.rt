@@ -92,7 +92,7 @@ fn read_command(body: &[u8]) -> Request
     ensures { result ≡ Request.Command (command_cdb body.now) (length (command_data body.now)) }
 {
     Request::Command {
-        cdb: RawCdb::new(&body[4..4 + body[0] as usize]),
+        cdb: RawCdb::in_command(body),
         data_out: body.len() - COMMAND_HEAD,
     }
 }
