@@ -18,6 +18,7 @@ fn is_login(body: &[u8]) -> bool
 }
 
 /// Whether the bytes behind a CDB of this size are zeros, the last eight of which are looked at together where they can be.
+#[inline(always)]
 fn is_padded(body: &[u8], size: usize) -> bool
     requires long { 20 ≤ length body.now }
     requires few { size ≤ 16 }
@@ -29,6 +30,7 @@ fn is_padded(body: &[u8], size: usize) -> bool
     are_zeros(&body[4 + size..12]) && get_u64(body, 12) == 0
 }
 
+#[inline(always)]
 fn is_command(body: &[u8]) -> bool
     ensures { result ≡ is_command_body body.now }
 {
@@ -73,6 +75,7 @@ fn rejects(body: &[u8]) -> bool
     body.len() == 12 && are_zeros(&body[1..4])
 }
 
+#[inline(always)]
 fn is_request(kind: u8, body: &[u8]) -> bool
     ensures { result ≡ is_body Side.Target kind body.now }
 {

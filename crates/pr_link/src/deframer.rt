@@ -72,6 +72,7 @@ impl Deframer {
     ///
     /// `buf` has room for the longest frame; what it holds behind the body, or without a frame, is free. After a broken
     /// rule nothing is held, and each call gives the same answer.
+    #[inline(always)]
     pub fn next(&mut self, buf: &mut [u8]) -> Got
         requires { HELD ≤ length buf.old }
         ensures { Gives (stream_of self.old) result (stream_of self.new) buf.new }
@@ -145,6 +146,7 @@ impl Deframer {
 }
 
 /// Takes a frame that stands whole in the first piece of the ring, with one copy of its body.
+#[inline(always)]
 fn take_whole(side: Side, held: &mut HeapCircularBuffer<u8>, buf: &mut [u8]) -> Option<Frame>
     requires { BODY ≤ length buf.old }
     ensures taken { IfSome result (λ g. (front side held.old.items ≡ Whole (frame_of g (take g.body buf.new)) held.new.items)

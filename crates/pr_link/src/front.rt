@@ -23,6 +23,7 @@ impl Front {
     /// What stands at the front of the bytes that one side has received. Nothing is moved; what is
     /// behind a frame isn't looked at.
     #[tactic(auto, unfolding(pr_grammar::specs::Frames::front))]
+    #[inline(always)]
     pub fn of(side: Side, bytes: &[u8]) -> Front
         ensures { IsFront side (front side bytes.now) result bytes.now }
     {

@@ -45,6 +45,7 @@ impl Asked {
     ghost use Rattle.pr_session.specs.States.{nexus_by};
 
     /// What a session wants while the turn waits.
+    #[inline(always)]
     pub(crate) fn want(&self) -> Want
         ensures { result ≡ want_of self.now }
     {

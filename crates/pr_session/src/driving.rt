@@ -14,6 +14,7 @@ use pr_io::{Disk, Medium};
 
 /// One turn of the session, with a target that knows it by a number: at most one act. The reply
 /// then waits.
+#[inline(always)]
 pub fn drive<M: Medium, D: Disk>(session: &mut Session, core: &mut Core<M, D>, who: u64)
     requires settled { IsSettled session.old }
     requires replied { reply_of session.old ≡ [] }

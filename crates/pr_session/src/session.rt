@@ -192,6 +192,7 @@ impl Session {
     ///
     /// Where a frame breaks a rule and nobody is logged in, the session has ended, and a Reject is
     /// its reply.
+    #[inline(always)]
     pub fn want(&mut self) -> Want
         requires { reply_of self.old ≡ [] }
         ensures begins { IsSettled self.old →
@@ -208,6 +209,7 @@ impl Session {
     }
 
     /// Begins the next turn of a session that lives.
+    #[inline(always)]
     fn begin(&mut self, logged_in: Option<Nexus>) -> Want
         requires lives { self.old.state ≡ living logged_in }
         requires replied { reply_of self.old ≡ [] }
@@ -222,6 +224,7 @@ impl Session {
     }
 
     /// A turn waits for its act's outcome.
+    #[inline(always)]
     fn ask(&mut self, asked: Asked) -> Want
         ensures want { result ≡ want_of asked }
         ensures state { self.new.state ≡ State.Asking asked }
@@ -248,6 +251,7 @@ impl Session {
     }
 
     /// A frame came, from this place on; its body is in the work buffer.
+    #[inline(always)]
     fn serve(&mut self, logged_in: Option<Nexus>, place: u64, head: Frame) -> Want
         requires formed { streams.IsFormed Target head (work_of self.old) }
         requires placed { place_of self.old.deframer ≡
@@ -290,6 +294,7 @@ impl Session {
     }
 
     /// What its turn under way asks for: by a frame that came, or by the task that runs.
+    #[inline(always)]
     fn asked(&self) -> Asked
         requires { is_some (asked_in self.now.state) ≡ true }
         ensures { asked_in self.now.state ≡ Some result }
@@ -317,6 +322,7 @@ impl Session {
 
     /// Has the act that is wanted done by a target, under a number. A command has its data-out from the
     /// work buffer, and leaves its data-in there, and a step moves its block from there or to there.
+    #[inline(always)]
     pub fn perform<M: Medium, D: Disk>(&mut self, core: &mut Core<M, D>, who: u64) -> Out
         requires { IsReadyIn self.old core.old who }
         ensures does { (a : Asked) → asked_in self.old.state ≡ Some a → Does a who core.old
@@ -343,6 +349,7 @@ impl Session {
     }
 
     /// How the act that is wanted came out. The reply then waits, if there is one.
+    #[inline(always)]
     pub fn answer(&mut self, out: &Out)
         requires { IsAnswer self.old out.now }
         ensures turned { HasTurned self.new (next_of self.old out.now) }
@@ -369,6 +376,7 @@ impl Session {
     }
 
     /// A reply to a request with this LUN and tag waits.
+    #[inline(always)]
     fn reply_with(&mut self, lun: u16, tag: u32, reply: &Reply)
         requires writable { IsWritable reply.now }
         requires idle { is_busy self.old.state ≡ false }
@@ -393,6 +401,7 @@ impl Session {
     }
 
     /// A command is answered, or its task begins.
+    #[inline(always)]
     fn answer_command(&mut self, head: Frame, nexus: Nexus, out_len: usize, out: CommandOut)
         requires proper { IsProper out }
         requires fed { IsFed out out_len }
@@ -450,6 +459,7 @@ impl Session {
     }
 
     /// The command with this LUN and tag has ended, with so many bytes of data-in, and is answered.
+    #[inline(always)]
     fn end(
         &mut self,
         nexus: Nexus,

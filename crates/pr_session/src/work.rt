@@ -73,6 +73,7 @@ impl Work {
     }
 
     /// The next frame, with its body at the front. After a broken rule the stream begins anew.
+    #[inline(always)]
     pub(crate) fn take_frame(&mut self, deframer: &mut Deframer) -> Got
         requires { IsIntact (stream_of deframer.old) }
         ensures goes { Receives (front Target (held_of deframer.old)) (stream_of deframer.old)
@@ -138,6 +139,7 @@ impl Work {
 
     /// Writes a reply behind the room, around its data-in, which stands at its place, and says how
     /// long it is.
+    #[inline(always)]
     pub(crate) fn write_reply(&mut self, lun: u16, tag: u32, reply: &Reply) -> usize
         requires { IsWritable reply.now }
         ensures reply { take result (drop ROOM (bytes_of self.new)) ≡ spelled (reply_frame reply.now
