@@ -31,7 +31,8 @@ pub enum Side {
 pub fn stands_before(a: &Nexus, b: &Nexus) -> bool
     ensures { result ≡ comes_before a.now b.now }
 {
-    a < b
+    // Written out, since the derived order makes each step of a search a third longer.
+    a.name < b.name || (a.name == b.name && a.port < b.port)
 }
 
 /// Whether two nexuses are one.
