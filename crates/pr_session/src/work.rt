@@ -168,6 +168,7 @@ fn copy_at(work: &mut [u8], at: usize, piece: &[u8])
 }
 
 /// Writes a reply behind the first four bytes of the slice.
+#[inline(always)]
 fn write_behind_room(work: &mut [u8], lun: u16, tag: u32, reply: &Reply) -> usize
     requires room { length work.old ≡ HELD }
     requires writable { IsWritable reply.now }

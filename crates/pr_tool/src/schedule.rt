@@ -88,21 +88,40 @@ fn read_head<S: Source>(source: &mut S, lanes: u8, left: u64) -> Result<[u8; 4],
         (S.rest source.new)) }
     ensures faults { S.faults source.new ≡ faults_read result (S.faults source.old) }
 {
+    if left < 4 {
+        return Err(read_cut_head(source, lanes, left));
+    }
     let mut head = [0; 4];
-    let room = left.min(4) as usize;
-    let Ok(got) = read_up_to(source, &mut head[..room]) else {
+    let Ok(got) = read_up_to(source, &mut head) else {
         return Err(End::ReadFault);
     };
-    if got < room {
+    if got < 4 {
         return Err(End::at(got > 0));
     }
-    if !can_begin(lanes, &head[..room]) {
+    if !can_begin(lanes, &head) {
         return Err(End::Broken);
     }
-    if room < 4 {
-        return Err(look_behind(source, room > 0));
-    }
     Ok(head)
+}
+
+/// Reads the fewer than four bytes that may still be looked at, and says why they are no record.
+fn read_cut_head<S: Source>(source: &mut S, lanes: u8, left: u64) -> End
+    requires { left < 4 }
+    ensures stops { Stops lanes left result (S.rest source.old) (S.rest source.new) }
+    ensures faults { S.faults source.new ≡ faults_at result (S.faults source.old) }
+{
+    let mut head = [0; 4];
+    let room = left as usize;
+    let Ok(got) = read_up_to(source, &mut head[..room]) else {
+        return End::ReadFault;
+    };
+    if got < room {
+        return End::at(got > 0);
+    }
+    if !can_begin(lanes, &head[..room]) {
+        return End::Broken;
+    }
+    look_behind(source, room > 0)
 }
 
 /// Reads the bytes of an arrival behind its head, of `left` bytes that may still be looked at.
