@@ -108,6 +108,7 @@ pub(crate) fn is_received(side: Side, kind: u8) -> bool
 }
 
 /// Whether a body has the form of its kind, which this side receives.
+#[inline(always)]
 pub(crate) fn is_well_formed(side: Side, kind: u8, body: &[u8]) -> bool
     ensures { result ≡ is_body side kind body.now }
 {

@@ -84,6 +84,7 @@ impl Reply {
 
     /// Writes a reply to the request with this LUN and tag into the front of a buffer, and says how
     /// many bytes it has. Its data-in, if any, stands there already, from place 16 on.
+    #[inline(always)]
     pub fn write(&self, lun: u16, tag: u32, out: &mut [u8]) -> usize
         requires writable { IsWritable self.now }
         requires room { 34 ≤ length out.old }
@@ -120,6 +121,7 @@ fn write_short(kind: u8, lun: u16, tag: u32, code: u8, out: &mut [u8]) -> usize
 }
 
 /// GOOD, before data-in that stands there already.
+#[inline(always)]
 fn write_good(lun: u16, tag: u32, data_in: usize, out: &mut [u8]) -> usize
     requires bound { data_in ≤ DATA }
     requires held { 16 + data_in ≤ length out.old }
