@@ -41,6 +41,7 @@ impl Front {
     }
 
     /// What a whole frame without its length is.
+    #[inline(always)]
     fn check(side: Side, content: &[u8]) -> Front
         requires least { 8 ≤ length content.now }
         requires most { length content.now ≤ FRAME_LENGTH }
