@@ -50,10 +50,12 @@ pub record Carried (body bytes : List ℕ) : Type 0 where
 in_body : (body : List ℕ) → is_command_body body ≡ true → Carried body (slice_range body 4 20)
 in_body body is =
     let size : ℕ = announced_cdb body in
-    let last = and_parts _ _ is in
-    let third = and_parts _ _ last.0 in
-    let second = and_parts _ _ third.0 in
-    let first = and_parts _ _ second.0 in
+    let all : Bool = not (ltb (length body) 20) in
+    let middle : Bool = list_all is_zero (slice_range body 1 4) in
+    let last : ((all && ltb 0 size && ltb size 17 && middle) ≡ true) × (list_all is_zero (slice_range body (4 + size) 20) ≡ true) = and_parts _ _ is in
+    let third : ((all && ltb 0 size && ltb size 17) ≡ true) × (middle ≡ true) = and_parts _ _ last.0 in
+    let second : ((all && ltb 0 size) ≡ true) × (ltb size 17 ≡ true) = and_parts _ _ third.0 in
+    let first : (all ≡ true) × (ltb 0 size ≡ true) = and_parts _ _ second.0 in
     let some : 1 ≤ size = omega (arith, ltb-true 0 size first.1) in
     let few : size ≤ 16 = omega (arith, ltb-true size 17 second.1) in
     let long : 20 ≤ length body = long_by (ltb (length body) 20) refl first.0 in
