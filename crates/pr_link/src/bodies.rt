@@ -17,7 +17,8 @@ fn is_login(body: &[u8]) -> bool
     body.len() == 12 && body[1] == 0
 }
 
-/// Whether the bytes behind a CDB of this size are zeros, the last eight of which are looked at together where they can be.
+/// Whether the bytes behind a CDB of this size are zeros. The last eight are looked at together
+/// where they can be.
 #[inline(always)]
 fn is_padded(body: &[u8], size: usize) -> bool
     requires long { 20 ≤ length body.now }

@@ -93,7 +93,8 @@ impl Deframer {
     #[tactic(auto, unfolding(pr_grammar::specs::Frames::front))]
     fn next_in_parts(&mut self, buf: &mut [u8]) -> Got
         requires room { HELD ≤ length buf.old }
-        ensures { GivesAt (stream_of self.old) (front self.old.side (held_of self.old)) result (stream_of self.new) buf.new }
+        ensures { GivesAt (stream_of self.old) (front self.old.side (held_of self.old)) result
+            (stream_of self.new) buf.new }
     {
         let held = self.held.len();
         if held < 4 {
@@ -117,7 +118,9 @@ impl Deframer {
     fn pass(&mut self, frame: Frame) -> Got
         requires { frame.body ≤ BODY }
         ensures answer { result ≡ Got.Frame frame }
-        ensures stream { stream_of self.new ≡ record (stream_of self.old) { place = (place_of self.old + (12 + frame.body)) % 2 ^ 64 } }
+        ensures stream { stream_of self.new ≡ record (stream_of self.old) {
+          place = (place_of self.old + (12 + frame.body)) % 2 ^ 64;
+        } }
     {
         self.place = self.place.wrapping_add((FRAME_HEAD + frame.body) as u64);
         Got::Frame(frame)
@@ -149,7 +152,8 @@ impl Deframer {
 #[inline(always)]
 fn take_whole(side: Side, held: &mut HeapCircularBuffer<u8>, buf: &mut [u8]) -> Option<Frame>
     requires { BODY ≤ length buf.old }
-    ensures taken { IfSome result (λ g. (front side held.old.items ≡ Whole (frame_of g (take g.body buf.new)) held.new.items)
+    ensures taken { IfSome result (λ g.
+        (front side held.old.items ≡ Whole (frame_of g (take g.body buf.new)) held.new.items)
         × IsFormed side g buf.new) }
     ensures none { result ≡ None → held.new ≡ held.old }
     ensures capacity { held.new.capacity ≡ held.old.capacity }
