@@ -1,5 +1,5 @@
 -- A frame that stands whole in the first of two pieces.
-use Rattle.std.proofs.Common.{◌≡◌, ℕ, ◌+◌, ◌-◌, ◌≤◌, List, ◌++◌, length, take, drop, slice_range, sym, ap, ◌∙◌, arith}
+use Rattle.std.proofs.Common.{◌≡◌, ℕ, ◌+◌, ◌-◌, List, ◌++◌, length, take, drop, slice_range, sym, ap, ◌∙◌, arith}
 use Rattle.std.proofs.lemmas.List.{take_at, length-append, length-take-le, length-drop, drop-append-le}
 use Rattle.pr_words.specs.declared.nexus.Side.{Side}
 use Rattle.pr_grammar.specs.Frames as grammar

@@ -1,4 +1,4 @@
-use Rattle.std.proofs.Common.{◌≡◌, ◌+◌, ◌-◌, List, length, drop, refl, ap, sym, ◌∙◌, subst}
+use Rattle.std.proofs.Common.{◌≡◌, ◌+◌, ◌-◌, length, drop, refl, ap, ◌∙◌, subst}
 use Rattle.pr_link.specs.declared.front.Front.{Front}
 use Rattle.pr_grammar.specs.Frames.{front}
 use Rattle.pr_link.specs.Fronts.{IsFront}
