@@ -73,6 +73,8 @@ impl<P: Peer + Drop> MemWire<P> {
 impl<P: Peer + Drop> Wire for MemWire<P> {
     ghost talk = { λ w. Some (talk_of w.earlier.items w.current) };
 
+    ghost reference = { λ _. None };
+
     ghost faults = { λ w. w.faults.count };
 
     ghost comes = { λ a b. AllGoOn (DeviceStands P.stands) (DeviceComes P.comes)

@@ -35,6 +35,8 @@ impl<'a, R: Net> TcpWire<'a, R> {
 impl<'a, R: Net> Wire for TcpWire<'a, R> {
     ghost talk = { λ _. None };
 
+    ghost reference = { λ _. None };
+
     ghost faults = { λ w. w.faults.count };
 
     ghost comes = { λ _ _. Unit {0} };

@@ -1,4 +1,5 @@
-ghost use Rattle.std.specs.Prelude.{◌≡◌, ◌≤◌, ℕ, Option, length, IfOk};
+ghost use Rattle.std.specs.Prelude.{◌≡◌, ◌≤◌, ℕ, Option, Some, length, IfOk};
+ghost use Rattle.std.specs.Borrow.{GName};
 ghost use Rattle.pr_io.specs.Causes.{HasCause};
 ghost use Rattle.pr_io.specs.Talks.{Talk, Dials, Sends, Receives};
 
@@ -8,6 +9,9 @@ use crate::Failed;
 pub trait Wire {
     /// All connections, with what was sent and received on each, where they are told.
     ghost talk: { Self → Option Talk };
+
+    /// Which reference the wire is, where it is one; no call changes that.
+    ghost reference: { Self → Option GName };
 
     /// How often the wire has failed.
     ghost faults: { Self → ℕ };
@@ -22,6 +26,7 @@ pub trait Wire {
     /// Where the wire has failed, so also where there is no such target.
     fn dial(&mut self, address: &str) -> Result<(), Failed>
         ensures talk { Dials (talk self.old) (talk self.new) result address.now }
+        ensures reference { reference self.new ≡ reference self.old }
         ensures cause { HasCause (faults self.old) (faults self.new) result }
         ensures comes { comes self.old self.new };
 
@@ -32,6 +37,7 @@ pub trait Wire {
     /// Where the wire has failed, or isn't connected.
     fn send(&mut self, bytes: &[u8]) -> Result<(), Failed>
         ensures talk { Sends (talk self.old) (talk self.new) result bytes.now }
+        ensures reference { reference self.new ≡ reference self.old }
         ensures cause { HasCause (faults self.old) (faults self.new) result }
         ensures comes { comes self.old self.new };
 
@@ -44,6 +50,7 @@ pub trait Wire {
     fn receive(&mut self, buf: &mut [u8]) -> Result<usize, Failed>
         ensures count { IfOk result (λ n. n ≤ length buf.old) }
         ensures talk { Receives (talk self.old) (talk self.new) result buf.new }
+        ensures reference { reference self.new ≡ reference self.old }
         ensures cause { HasCause (faults self.old) (faults self.new) result }
         ensures comes { comes self.old self.new };
 
@@ -54,6 +61,8 @@ pub trait Wire {
 
 impl<W: Wire> Wire for &mut W {
     ghost talk = { λ w. W.talk w.now };
+
+    ghost reference = { λ w. Some w.ghost_name };
 
     ghost faults = { λ w. W.faults w.now };
 
