@@ -23,15 +23,16 @@ bytes_with tag list cdb = spelled (request_frame (request.Command cdb (length li
 -- a command was sent that is spelled so
 pub answered : (old new : Link) (o : Order) (cdb work : List ℕ) (result : Result Answer LinkFault) → cdb ≡ spelled_cdb (plain_cdb o.command)
     → Answers (answer_by old.place) 0x82 old.tag old.place old.talk new.talk (bytes_with old.tag o.list cdb) result work
-    → IfOk result (Yields (answer_by old.place) 0x82 old new (bytes_with old.tag o.list cdb)) → new.tag ≡ next_tag old.tag → old.faults ≤ new.faults → IfErr result (λ e. e ≡ fault.Down → Rose old.faults new.faults)
+    → IfOk result (Yields (answer_by old.place) 0x82 old new (bytes_with old.tag o.list cdb)) → new.tag ≡ next_tag old.tag → new.reference ≡ old.reference → old.faults ≤ new.faults → IfErr result (λ e. e ≡ fault.Down → Rose old.faults new.faults)
     → HasAnswered old new o result
 unfolding order_bytes
-answered old new o cdb work result is answers yields tag later down =
+answered old new o cdb work result is answers yields tag reference later down =
     let same : bytes_with old.tag o.list cdb ≡ bytes_with old.tag o.list (spelled_cdb (plain_cdb o.command)) = ap (bytes_with old.tag o.list) is in
     record {
       answers = (work, subst (λ (bytes : List ℕ). Answers (answer_by old.place) 0x82 old.tag old.place old.talk new.talk bytes result work) same answers);
       yields = subst (λ (bytes : List ℕ). IfOk result (Yields (answer_by old.place) 0x82 old new bytes)) same yields;
       tag = tag;
+      reference = reference;
       later = later;
       down = down;
     }

@@ -1,5 +1,6 @@
 -- An initiator as its contracts see it, and what a request does to it (this project's own).
 use Rattle.std.specs.Prelude.{◌≡◌, ℕ, ◌+◌, ◌%◌, ◌^◌, ◌≤◌, List, [], length, drop, slice_range, Option, Result, Ok, IfOk, IfErr}
+use Rattle.std.specs.Borrow.{GName}
 use Rattle.pr_words.specs.declared.nexus.Side.TheVariants as side
 use Rattle.pr_grammar.specs.declared.sense.SenseFault.{SenseFault}
 use Rattle.pr_grammar.specs.Frames.{Frame, front, Whole}
@@ -15,10 +16,11 @@ use Rattle.pr_initiator.specs.Calls.{Answers}
 use Rattle.pr_initiator.specs.Goings.{Goes}
 use Rattle.pr_initiator.specs.Judging.{judged}
 
--- what its wire tells, the tag of the next request, the place at which the next reply begins, and the data-in of the last
+-- what its wire tells, and which reference it is, where it is one; the tag of the next request, the place at which the next reply begins, and the data-in of the last
 -- answer
 pub record Link : Type 0 where
   pub talk : Option Talk
+  pub reference : Option GName
   pub faults : ℕ
   pub tag : ℕ
   pub place : ℕ
@@ -27,6 +29,7 @@ pub record Link : Type 0 where
 abbrev pub link_of : {W : Type 0} {of : wires.Ghosts W} → Initiator W of → Link
 link_of {W} {of} i = record {
   talk = of.talk i.wire;
+  reference = of.reference i.wire;
   faults = of.faults i.wire;
   tag = i.tag;
   place = i.place;
@@ -64,5 +67,6 @@ pub record HasCalled {T : Type 0} (says : Result Reply SenseFault → Result T L
   pub answers : (work : List ℕ) × Answers says asked old.tag old.place old.talk new.talk sent result work
   pub yields : IfOk result (Yields says asked old new sent)
   pub tag : new.tag ≡ next_tag old.tag
+  pub reference : new.reference ≡ old.reference
   pub later : old.faults ≤ new.faults
   pub down : IfErr result (λ e. e ≡ fault.Down → Rose old.faults new.faults)

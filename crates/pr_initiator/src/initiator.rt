@@ -48,6 +48,7 @@ fn ask_in<W: Wire>(
     ensures asks { Asks asked tag place (W.talk wire.old) (W.talk wire.new)
         (spelled (request_frame request.now 0 tag sent.now)) result work.new.items }
     ensures size { IfOk result (λ h. h.size ≤ HELD) }
+    ensures reference { W.reference wire.new ≡ W.reference wire.old }
     ensures later { W.faults wire.old ≤ W.faults wire.new }
     ensures down { IfErr result (λ e. e ≡ LinkFault.Down →
         Rose (W.faults wire.old) (W.faults wire.new)) }
@@ -149,6 +150,7 @@ impl<W: Wire + Drop> Initiator<W> {
             (link_of self.old) (link_of self.new)
             (spelled (request_frame (request.Login 1 nexus) 0 self.old.tag []))) }
         ensures tag { self.new.tag ≡ next_tag self.old.tag }
+        ensures reference { W.reference self.new.wire ≡ W.reference self.old.wire }
         ensures later { W.faults self.old.wire ≤ W.faults self.new.wire }
         ensures down { IfErr result (λ e. e ≡ LinkFault.Down →
             Rose (W.faults self.old.wire) (W.faults self.new.wire)) }
@@ -171,6 +173,7 @@ impl<W: Wire + Drop> Initiator<W> {
             address.now) }
         ensures tag { OnOk result (self.new.tag ≡ 1) }
         ensures place { OnOk result (self.new.place ≡ 0) }
+        ensures reference { W.reference self.new.wire ≡ W.reference self.old.wire }
         ensures later { W.faults self.old.wire ≤ W.faults self.new.wire }
         ensures nothing { OnErr result (W.talk self.new.wire ≡ W.talk self.old.wire) }
         ensures fault { IfErr result (λ e. e ≡ LinkFault.Down) }
@@ -201,6 +204,7 @@ impl<W: Wire + Drop> Initiator<W> {
             (link_of self.old) (link_of self.new)
             (spelled (request_frame request.Logout 0 self.old.tag []))) }
         ensures tag { self.new.tag ≡ next_tag self.old.tag }
+        ensures reference { W.reference self.new.wire ≡ W.reference self.old.wire }
         ensures later { W.faults self.old.wire ≤ W.faults self.new.wire }
         ensures down { IfErr result (λ e. e ≡ LinkFault.Down →
             Rose (W.faults self.old.wire) (W.faults self.new.wire)) }
@@ -228,6 +232,7 @@ impl<W: Wire + Drop> Initiator<W> {
             (link_of self.old) (link_of self.new)
             (spelled (request_frame (request.Command cdb (length out.now)) 0 self.old.tag out.now))) }
         ensures tag { self.new.tag ≡ next_tag self.old.tag }
+        ensures reference { W.reference self.new.wire ≡ W.reference self.old.wire }
         ensures later { W.faults self.old.wire ≤ W.faults self.new.wire }
         ensures down { IfErr result (λ e. e ≡ LinkFault.Down →
             Rose (W.faults self.old.wire) (W.faults self.new.wire)) }
@@ -263,6 +268,7 @@ impl<W: Wire + Drop> Initiator<W> {
             (link_of self.old) (link_of self.new)
             (spelled (request_frame request.now 0 self.old.tag sent.now)) h.reply) }
         ensures tag { self.new.tag ≡ next_tag self.old.tag }
+        ensures reference { W.reference self.new.wire ≡ W.reference self.old.wire }
         ensures later { W.faults self.old.wire ≤ W.faults self.new.wire }
         ensures down { IfErr result (λ e. e ≡ LinkFault.Down →
             Rose (W.faults self.old.wire) (W.faults self.new.wire)) }

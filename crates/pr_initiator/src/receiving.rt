@@ -20,6 +20,7 @@ pub(crate) fn receive_up_to<W: Wire>(wire: &mut W, buf: &mut [u8]) -> Result<usi
     ensures went { OnErr result ((heard : List ℕ) ×
         Goes (W.talk wire.old) (W.talk wire.new) [] heard) }
     ensures ended { IfOk result (λ n. n < length buf.old → WasEnded (W.talk wire.new)) }
+    ensures reference { W.reference wire.new ≡ W.reference wire.old }
     ensures cause { HasCause (W.faults wire.old) (W.faults wire.new) result }
 {
     let mut at = 0;
@@ -53,6 +54,7 @@ fn hear_length<W: Wire>(wire: &mut W, work: &mut [u8]) -> Result<usize, Unheard>
     ensures number { IfOk result (λ k. number32_at (take 4 work.new) 0 ≡ k) }
     ensures few { IfOk result (λ k. 4 + k ≤ HELD) }
     ensures none { IfErr result (HearsNot (W.talk wire.old) (W.talk wire.new)) }
+    ensures reference { W.reference wire.new ≡ W.reference wire.old }
     ensures later { W.faults wire.old ≤ W.faults wire.new }
     ensures down { IfErr result (λ e. e ≡ Unheard.Down →
         Rose (W.faults wire.old) (W.faults wire.new)) }
@@ -78,6 +80,7 @@ fn hear_rest<W: Wire>(wire: &mut W, work: &mut [u8], lacks: usize) -> Result<Fra
     requires few { 4 + lacks ≤ HELD }
     ensures hears { (t : Option Talk) → Goes t (W.talk wire.old) [] (take 4 work.old) →
         Hears t (W.talk wire.new) result work.new }
+    ensures reference { W.reference wire.new ≡ W.reference wire.old }
     ensures later { W.faults wire.old ≤ W.faults wire.new }
     ensures down { IfErr result (λ e. e ≡ Unheard.Down →
         Rose (W.faults wire.old) (W.faults wire.new)) }
@@ -99,6 +102,7 @@ fn hear_rest<W: Wire>(wire: &mut W, work: &mut [u8], lacks: usize) -> Result<Fra
 pub(crate) fn hear<W: Wire>(wire: &mut W, work: &mut [u8]) -> Result<Frame, Unheard>
     requires { HELD ≤ length work.old }
     ensures hears { Hears (W.talk wire.old) (W.talk wire.new) result work.new }
+    ensures reference { W.reference wire.new ≡ W.reference wire.old }
     ensures later { W.faults wire.old ≤ W.faults wire.new }
     ensures down { IfErr result (λ e. e ≡ Unheard.Down →
         Rose (W.faults wire.old) (W.faults wire.new)) }
