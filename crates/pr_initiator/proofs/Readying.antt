@@ -1,5 +1,5 @@
 -- TEST UNIT READY, asked again and again.
-use Rattle.std.proofs.Common.{◌≡◌, ℕ, suc, ◌+◌, ◌-◌, ◌<◌, ◌≤◌, inl, inr, refl, arith, subst}
+use Rattle.std.proofs.Common.{◌≡◌, ◌∙◌, ap, ℕ, zero, suc, ◌+◌, ◌-◌, ◌<◌, ◌≤◌, inl, inr, refl, arith, subst}
 use Rattle.std.specs.Prelude.{Result, Ok, Err, Some, None}
 use Rattle.pr_words.specs.declared.code.Code.{Code}
 use Rattle.pr_initiator.specs.declared.answer.Answer.{Answer}
@@ -29,3 +29,10 @@ unfolding IsReady
 tires n i last old most =
     let left : 0 ≡ n - i = omega (arith, most) in
     subst (λ (k : ℕ). IsReady k last old old (Err (fault.Attention last))) left (refl, refl)
+
+-- it keeps the wire that was lent
+pub ready_keeps : (n : ℕ) (last : Code) (old new : Link) (r : Result Answer LinkFault) → IsReady n last old new r → new.reference ≡ old.reference
+unfolding IsReady
+ready_keeps zero last old new r is = ap (λ (l : Link). l.reference) is.0
+ready_keeps (suc n) last old new r (inl is) = is.0.reference
+ready_keeps (suc n) last old new r (inr (mid, a, code, has, some, rest)) = ready_keeps n code mid new r rest ∙ has.reference

@@ -9,3 +9,4 @@ pub mod Zeros
 pub mod Printed
 pub mod Shown
 pub mod Refusing
+pub mod Keeping

@@ -44,6 +44,7 @@ pub record HasDialled (address : List ℕ) (old new : Link) (result : Result Uni
   pub nothing : OnErr result (new.talk ≡ old.talk)
   pub fault : IfErr result (λ e. e ≡ fault.Down)
   pub down : OnErr result (Rose old.faults new.faults)
+  pub reference : new.reference ≡ old.reference
   pub later : old.faults ≤ new.faults
 
 -- just a Login, or a Logout, was sent, and its reply says the result

@@ -16,7 +16,7 @@ mod texts;
 mod words;
 
 pub use exit::PersistExit;
-pub use persist::persist_over;
+pub use persist::persist_main;
 
 #[cfg(test)]
 mod tests;

@@ -29,24 +29,26 @@ fn run_over<W: Wire + Drop, K: Sink>(
     plan: &Plan<'_>,
 ) -> (PersistExit, W)
     requires { plan.now.fields.kind < 16 }
-    ensures { HasRun (wanted_of plan.now) (wire_of (link_of initiator))
+    ensures run { HasRun (wanted_of plan.now) (wire_of (link_of initiator))
         (told_wire W.Wire result.1) (told_sink K.Sink sink.old) (told_sink K.Sink sink.new)
         result.0 }
+    ensures reference { W.reference result.1 ≡ (link_of initiator).reference }
 {
     let ran = run(&mut initiator, sink, plan);
     (exit_of(ran), initiator.into_wire())
 }
 
-/// Reads the words, and runs what they ask for.
+/// Reads the words, runs what they ask for, and gives the wire back.
 fn read_and_run<W: Wire + Drop, K: Sink>(
     alloc: Global,
     words: &[&str],
     wire: W,
     sink: &mut K,
 ) -> (PersistExit, W)
-    ensures { Ends (wanted_by (map (λ w. w.now) words.now)) (told_wire W.Wire wire)
+    ensures ends { Ends (wanted_by (map (λ w. w.now) words.now)) (told_wire W.Wire wire)
         (told_wire W.Wire result.1) (told_sink K.Sink sink.old) (told_sink K.Sink sink.new)
         result.0 }
+    ensures reference { W.reference result.1 ≡ W.reference wire }
 {
     match plan_of(alloc, words) {
         Ok(plan) => match Initiator::new(alloc, wire) {
@@ -58,19 +60,20 @@ fn read_and_run<W: Wire + Drop, K: Sink>(
     }
 }
 
-/// Does what the words ask of a target over a wire, prints what it answered, and gives the wire back.
-/// The first word is the command's name. All memory is taken before anything is dialled.
-pub fn persist_over<W: Wire + Drop, K: Sink>(
+/// Does what the words ask of a target over a wire, and prints what it answered. The first word is
+/// the command's name. All memory is taken before anything is dialled.
+pub fn persist_main<W: Wire, K: Sink>(
     alloc: Global,
     words: &[&str],
-    wire: W,
+    wire: &mut W,
     sink: &mut K,
-) -> (PersistExit, W)
-    ensures ends { Ends (wanted_by (map (λ w. w.now) words.now)) (told_wire W.Wire wire)
-        (told_wire W.Wire result.1) (told_sink K.Sink sink.old) (told_sink K.Sink sink.new)
-        result.0 }
-    ensures words { result.0 ≡ PersistExit.BadWords →
+) -> PersistExit
+    ensures ends { Ends (wanted_by (map (λ w. w.now) words.now)) (told_wire W.Wire wire.old)
+        (told_wire W.Wire wire.new) (told_sink K.Sink sink.old) (told_sink K.Sink sink.new)
+        result }
+    ensures words { result ≡ PersistExit.BadWords →
         wanted_by (map (λ w. w.now) words.now) ≡ None }
 {
-    read_and_run(alloc, words, wire, sink)
+    let (exit, _wire) = read_and_run(alloc, words, wire, sink);
+    exit
 }

@@ -21,7 +21,7 @@ fn keys_are_printed_behind_the_inquiry(rt: HostRuntime) -> Result<(), Fail> {
         b"  PRTOOL    SHARED DISK       0001\n  PR generation=0x1, 1 registered reservation key follows:\n    0x90010001\n";
     let words = ["persist", "--in", "-k", "x", "--name", "11"];
     let mut sink = MemSink::new(alloc, Vec::new(alloc));
-    let (exit, _) = persist_over(alloc, &words, wire_of(alloc, script)?, &mut sink);
+    let exit = persist_main(alloc, &words, &mut wire_of(alloc, script)?, &mut sink);
     assert!(rt; exit == PersistExit::Done);
     assert!(rt; sink.bytes() == text.as_slice());
     Ok(())
@@ -38,9 +38,9 @@ fn refusals_have_their_exits(rt: HostRuntime) -> Result<(), Fail> {
         "persist", "-R", "-K", "0x1", "-T", "5", "-n", "-d", "x", "--name", "11",
     ];
     let mut sink = MemSink::new(alloc, Vec::new(alloc));
-    let (exit, _) = persist_over(alloc, &two, wire_of(alloc, script)?, &mut sink);
+    let exit = persist_main(alloc, &two, &mut wire_of(alloc, script)?, &mut sink);
     assert!(rt; exit.status() == 2);
-    let (exit, _) = persist_over(alloc, &reserve, wire_of(alloc, script)?, &mut sink);
+    let exit = persist_main(alloc, &reserve, &mut wire_of(alloc, script)?, &mut sink);
     assert!(rt; exit.status() == 11);
     assert!(rt; sink.bytes().is_empty());
     Ok(())

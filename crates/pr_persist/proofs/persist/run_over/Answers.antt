@@ -1,10 +1,12 @@
-use Rattle.std.proofs.Common.{ap, sym, refl}
+use Rattle.std.proofs.Common.{ap, sym, refl, ◌∙◌}
 use Rattle.pr_initiator.specs.Links.{link_of}
+use Rattle.pr_persist.specs.Asking.{wanted_of}
 use Rattle.pr_persist.specs.Whole.{told_wire}
+use Rattle.pr_persist.proofs.Keeping.{runs_keep}
 use Rattle.pr_persist.proofs.persist.run_over.Goals as goal
 
-pub returns : goal.returns
-returns g c =
+pub returns-clause-run : goal.returns-clause-run
+returns-clause-run g c =
     record {
       first = link_of c.args.initiator;
       last = link_of c.run-ran.new.initiator;
@@ -14,3 +16,6 @@ returns g c =
       before = refl;
       after = ap (told_wire g.W.Wire) (sym c.into_wire.ensures);
     }
+
+pub returns-clause-reference : goal.returns-clause-reference
+returns-clause-reference g c = ap g.W.Wire.reference c.into_wire.ensures ∙ runs_keep (wanted_of c.args.plan.now) _ _ c.run-ran.result c.run-ran.ensures
