@@ -15,6 +15,8 @@ use Rattle.pr_initiator.specs.declared.link_fault.LinkFault.TheVariants as fault
 use Rattle.pr_initiator.specs.Calls.{login_by, logout_by}
 use Rattle.pr_initiator.specs.Commands.{Order, HasAnswered, IsReady, inquiry, out_list, reserve_in, reserve_out}
 use Rattle.pr_initiator.specs.Links.{Link, HasCalled}
+use Rattle.pr_persist.specs.declared.asked.Asked.{Asked}
+use Rattle.pr_persist.specs.declared.asked.Asked.TheVariants as ask
 use Rattle.pr_persist.specs.declared.exit.PersistExit.{PersistExit}
 use Rattle.pr_persist.specs.declared.plan.Action.{Action}
 use Rattle.pr_persist.specs.declared.plan.Action.TheVariants.{In, Out}
@@ -58,13 +60,13 @@ HasLoggedOut old new result = HasCalled (logout_by old.place) 0x83 old new (spel
 abbrev pub Step : Type 0 → Type 0 → Type 1
 Step S T = S → S → Result T PersistExit → Type 0
 
--- a fault of the link ends the run
-abbrev pub Linked : (Link → Link → Result Unit LinkFault → Type 0) → Step Link Unit
-Linked call old new result = (r : Result Unit LinkFault) × call old new r × (result ≡ linked_by r)
+-- a fault of the link ends the run, and the exit says what was asked
+abbrev pub Linked : Asked → (Link → Link → Result Unit LinkFault → Type 0) → Step Link Unit
+Linked asked call old new result = (r : Result Unit LinkFault) × call old new r × (result ≡ linked_by asked r)
 
 -- and so does an answer that isn't GOOD
-abbrev pub Judged : (Link → Link → Result Answer LinkFault → Type 0) → Step Link Answer
-Judged call old new result = (r : Result Answer LinkFault) × call old new r × (result ≡ judged_by r)
+abbrev pub Judged : Asked → (Link → Link → Result Answer LinkFault → Type 0) → Step Link Answer
+Judged asked call old new result = (r : Result Answer LinkFault) × call old new r × (result ≡ judged_by asked r)
 
 abbrev pub GoesOn : {S T U : Type 0} → (T → Step S U) → Result T PersistExit → Step S U
 GoesOn next (Ok v) mid new result = next v mid new result
@@ -76,17 +78,17 @@ Then {S} {T} first next old new result = (mid : S) × (r : Result T PersistExit)
 
 -- it logs in, and asks until the target is ready
 abbrev pub Enters : Nexus → Step Link Answer
-Enters nexus = Then (Linked (HasLoggedIn nexus)) (λ u. Judged (IsReady 9 code.Code.NO_SENSE))
+Enters nexus = Then (Linked ask.Login (HasLoggedIn nexus)) (λ u. Judged ask.Readiness (IsReady 9 code.Code.NO_SENSE))
 
 -- it dials before
 abbrev pub Opens : Wanted → Step Link Answer
-Opens w = Then (Linked (HasDialled w.address)) (λ u. Enters w.nexus)
+Opens w = Then (Linked ask.Connection (HasDialled w.address)) (λ u. Enters w.nexus)
 
 abbrev pub Inquires : Step Link Answer
-Inquires = Judged (λ old new r. HasAnswered old new inquiry r)
+Inquires = Judged ask.Inquiry (λ old new r. HasAnswered old new inquiry r)
 
 abbrev pub Acts : Wanted → Step Link Answer
-Acts w = Judged (λ old new r. HasAnswered old new (order_of w.action w.fields) r)
+Acts w = Judged (ask.Command w.action) (λ old new r. HasAnswered old new (order_of w.action w.fields) r)
 
 abbrev pub Closes : Step Link Unit
-Closes = Linked HasLoggedOut
+Closes = Linked ask.Logout HasLoggedOut

@@ -7,6 +7,9 @@ use Rattle.pr_grammar.specs.declared.param.ReplyFault.TheVariants.{BadLength, Cu
 use Rattle.pr_grammar.specs.InReplies.{read_keys, read_reservation, read_capabilities, read_full}
 use Rattle.pr_io.specs.declared.outside.Failed.{Failed}
 use Rattle.pr_io.specs.Told.{ToldSink}
+use Rattle.pr_persist.specs.declared.asked.Asked.{Asked}
+use Rattle.pr_persist.specs.declared.asked.Asked.TheVariants.{Command}
+use Rattle.pr_persist.specs.declared.plan.Action.TheVariants.{In}
 use Rattle.pr_persist.specs.declared.exit.PersistExit.{PersistExit}
 use Rattle.pr_persist.specs.declared.exit.PersistExit.TheVariants.{WriteFault, BadData}
 use Rattle.pr_persist.specs.Prints.{HasPrinted}
@@ -35,7 +38,10 @@ abbrev pub written_by : Result Unit Failed → Result Unit PersistExit
 written_by (Ok u) = Ok tt
 written_by (Err e) = Err WriteFault
 
+abbrev pub looking : InService → Asked
+looking service = Command (In service)
+
 -- the text was printed, or nothing was since the data break their grammar
-abbrev pub HasShown : Result (List ℕ) ℕ → ToldSink → ToldSink → Result Unit PersistExit → Type 0
-HasShown (Ok text) old new result = (p : Result Unit Failed) × HasPrinted old new text p × (result ≡ written_by p)
-HasShown (Err place) old new result = (new ≡ old) × (result ≡ Err (BadData place))
+abbrev pub HasShown : Asked → Result (List ℕ) ℕ → ToldSink → ToldSink → Result Unit PersistExit → Type 0
+HasShown asked (Ok text) old new result = (p : Result Unit Failed) × HasPrinted old new text p × (result ≡ written_by p)
+HasShown asked (Err place) old new result = (new ≡ old) × (result ≡ Err (BadData asked place))

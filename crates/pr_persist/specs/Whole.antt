@@ -4,13 +4,15 @@ use Rattle.pr_io.specs.Talks.{Talk}
 use Rattle.pr_io.specs.Told.{ToldSink}
 use Rattle.pr_io.specs.declared.wire.Wire as wires
 use Rattle.pr_initiator.specs.Links.{Link}
+use Rattle.pr_persist.specs.declared.asked.Asked.{Asked}
+use Rattle.pr_persist.specs.declared.asked.Asked.TheVariants as ask
 use Rattle.pr_persist.specs.declared.exit.PersistExit.{PersistExit}
 use Rattle.pr_persist.specs.declared.exit.PersistExit.TheVariants.{Done, BadWords, NoMemory}
 use Rattle.pr_persist.specs.declared.plan.Action.{Action}
 use Rattle.pr_persist.specs.declared.plan.Action.TheVariants.{In, Out}
 use Rattle.pr_persist.specs.Asking.{Wanted}
 use Rattle.pr_persist.specs.Runs.{Step, Then, Opens, Inquires, Acts, Closes}
-use Rattle.pr_persist.specs.Shows.{HasShown, inquiry_text, reply_text}
+use Rattle.pr_persist.specs.Shows.{looking, HasShown, inquiry_text, reply_text}
 
 -- the initiator and the sink
 pub record At : Type 0 where
@@ -25,20 +27,20 @@ abbrev pub Quiet : {T : Type 0} → Step Link T → Step At T
 Quiet step old new result = step old.link new.link result × (new.sink ≡ old.sink)
 
 -- a step that prints what the data-in of the last answer say, and sends nothing
-abbrev pub Showing : (List ℕ → Result (List ℕ) ℕ) → Step At Unit
-Showing text old new result = (new.link ≡ old.link) × HasShown (text old.link.received) old.sink new.sink result
+abbrev pub Showing : Asked → (List ℕ → Result (List ℕ) ℕ) → Step At Unit
+Showing asked text old new result = (new.link ≡ old.link) × HasShown asked (text old.link.received) old.sink new.sink result
 
 abbrev pub Skips : Step At Unit
 Skips old new result = (new ≡ old) × (result ≡ Ok tt)
 
 -- INQUIRY and its line, unless they are left out
 abbrev pub Looks : Bool → Step At Unit
-Looks true = Then (Quiet Inquires) (λ a. Showing inquiry_text)
+Looks true = Then (Quiet Inquires) (λ a. Showing ask.Inquiry inquiry_text)
 Looks false = Skips
 
 -- an action that looks has a text, and one that changes something has none
 abbrev pub Tells : Action → Step At Unit
-Tells (In service) = Showing (reply_text service)
+Tells (In service) = Showing (looking service) (reply_text service)
 Tells (Out service) = Skips
 
 abbrev pub ActsAndTells : Wanted → Step At Unit

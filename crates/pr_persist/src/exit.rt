@@ -1,6 +1,7 @@
 ghost use Rattle.std.specs.Prelude.{◌≡◌};
-ghost use Rattle.pr_persist.specs.Exits.{status_of};
+ghost use Rattle.pr_persist.specs.Exits.{link_status as spec_status, status_of};
 
+use crate::asked::Asked;
 use pr_initiator::LinkFault;
 use pr_words::Code;
 
@@ -12,23 +13,55 @@ pub enum PersistExit {
     /// The words make no command.
     BadWords,
     /// The target gave no answer that counts.
-    Link(LinkFault),
+    Link {
+        /// What was asked.
+        asked: Asked,
+        /// Why no answer counts.
+        fault: LinkFault,
+    },
     /// The output failed.
     WriteFault,
     /// There was no memory for a run, and nothing was dialled.
     NoMemory,
     /// The last answer was RESERVATION CONFLICT.
-    Conflict,
-    /// The last answer was CHECK CONDITION with this code.
-    Check(Code),
-    /// The last answer had this status, which is none of the others.
-    OddStatus(u8),
+    Conflict {
+        /// What was asked.
+        asked: Asked,
+    },
+    /// The last answer was CHECK CONDITION.
+    Check {
+        /// What was asked.
+        asked: Asked,
+        /// The code of the sense data.
+        code: Code,
+    },
+    /// The last answer had a status that is none of the others.
+    OddStatus {
+        /// What was asked.
+        asked: Asked,
+        /// The status byte (SAM-5).
+        status: u8,
+    },
     /// The data of an answer that was GOOD break their grammar at this place, or the sense data of a
     /// CHECK CONDITION can't be read.
     BadData {
+        /// What was asked.
+        asked: Asked,
         /// The number of bytes before the fault.
         place: u64,
     },
+}
+
+/// The exit status where the target gave no answer that counts.
+fn link_status(fault: LinkFault) -> u8
+    ensures { result ≡ spec_status fault }
+{
+    match fault {
+        LinkFault::Down => 3,
+        LinkFault::Ended { .. } | LinkFault::BadReply { .. } | LinkFault::Rejected { .. } => 5,
+        LinkFault::Refused { .. } => 10,
+        LinkFault::Attention(_) => 13,
+    }
 }
 
 impl PersistExit {
@@ -39,18 +72,13 @@ impl PersistExit {
         match self {
             PersistExit::Done => 0,
             PersistExit::BadWords => 2,
-            PersistExit::Link(LinkFault::Down) => 3,
+            PersistExit::Link { fault, .. } => link_status(fault),
             PersistExit::WriteFault => 4,
-            PersistExit::Link(
-                LinkFault::Ended { .. } | LinkFault::BadReply { .. } | LinkFault::Rejected { .. },
-            ) => 5,
             PersistExit::NoMemory => 7,
-            PersistExit::Link(LinkFault::Refused { .. }) => 10,
-            PersistExit::Conflict => 11,
-            PersistExit::Check(_) => 12,
-            PersistExit::Link(LinkFault::Attention(_)) => 13,
+            PersistExit::Conflict { .. } => 11,
+            PersistExit::Check { .. } => 12,
             PersistExit::BadData { .. } => 14,
-            PersistExit::OddStatus(_) => 15,
+            PersistExit::OddStatus { .. } => 15,
         }
     }
 }

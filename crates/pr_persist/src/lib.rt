@@ -2,6 +2,7 @@
 #![tactic(auto)]
 
 mod arguments;
+mod asked;
 mod digits;
 mod exit;
 mod full;
@@ -15,8 +16,10 @@ mod steps;
 mod texts;
 mod words;
 
+pub use asked::Asked;
 pub use exit::PersistExit;
 pub use persist::persist_main;
+pub use plan::Action;
 
 #[cfg(test)]
 mod tests;

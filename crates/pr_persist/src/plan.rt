@@ -2,7 +2,7 @@ use pr_words::{InService, Key, Nexus, OutService};
 
 /// A command of persistent reservations (SPC-4).
 #[derive(Clone, Copy, Debug, PartialEq, Eq)]
-pub(crate) enum Action {
+pub enum Action {
     /// PERSISTENT RESERVE IN.
     In(InService),
     /// PERSISTENT RESERVE OUT.

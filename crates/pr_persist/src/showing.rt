@@ -1,11 +1,15 @@
 ghost use Rattle.std.specs.Prelude.{◌≡◌, Err};
 ghost use Rattle.pr_grammar.specs.InReplies as replies;
 ghost use Rattle.pr_io.specs.Told.{told_sink};
-ghost use Rattle.pr_persist.specs.Shows.{HasShown, place_of, text_in, reply_text, inquiry_text, written_by};
+ghost use Rattle.pr_words.specs.declared.service.InService.TheVariants as ins;
+ghost use Rattle.pr_persist.specs.declared.asked.Asked.TheVariants as ask;
+ghost use Rattle.pr_persist.specs.Shows.{looking, HasShown, place_of, text_in, reply_text, inquiry_text, written_by};
 ghost use Rattle.pr_persist.specs.Texts.{keys_text, held_text, capabilities_text, full_text};
 
+use crate::asked::Asked;
 use crate::exit::PersistExit;
 use crate::full::{put_full, put_inquiry};
+use crate::plan::Action;
 use crate::printing::put_keys;
 use crate::texts::{put_capabilities, put_held};
 use pr_io::{Failed, Sink};
@@ -36,55 +40,66 @@ fn place(fault: ReplyFault) -> usize
 }
 
 /// The exit of data that break their grammar.
-fn bad(place: usize) -> Result<(), PersistExit>
-    ensures { result ≡ Err (PersistExit.BadData place) }
+fn bad(asked: Asked, place: usize) -> Result<(), PersistExit>
+    ensures { result ≡ Err (PersistExit.BadData asked place) }
 {
     Err(PersistExit::BadData {
+        asked,
         place: place as u64,
     })
 }
 
+/// The exit of data of a PERSISTENT RESERVE IN that break their grammar.
+fn bad_reply(service: InService, place: usize) -> Result<(), PersistExit>
+    ensures { result ≡ Err (PersistExit.BadData (looking service) place) }
+{
+    bad(Asked::Command(Action::In(service)), place)
+}
+
 /// Shows the data of READ KEYS.
 fn show_keys<K: Sink>(sink: &mut K, bytes: &[u8]) -> Result<(), PersistExit>
-    ensures { HasShown (text_in keys_text (replies.read_keys bytes.now))
+    ensures { HasShown (looking ins.ReadKeys) (text_in keys_text (replies.read_keys bytes.now))
         (told_sink K.Sink sink.old) (told_sink K.Sink sink.new) result }
 {
     match read_keys(bytes) {
         Ok(told) => written(put_keys(sink, &told)),
-        Err(fault) => bad(place(fault)),
+        Err(fault) => bad_reply(InService::ReadKeys, place(fault)),
     }
 }
 
 /// Shows the data of READ RESERVATION.
 fn show_reservation<K: Sink>(sink: &mut K, bytes: &[u8]) -> Result<(), PersistExit>
-    ensures { HasShown (text_in held_text (replies.read_reservation bytes.now))
+    ensures { HasShown (looking ins.ReadReservation)
+        (text_in held_text (replies.read_reservation bytes.now))
         (told_sink K.Sink sink.old) (told_sink K.Sink sink.new) result }
 {
     match read_reservation(bytes) {
         Ok(told) => written(put_held(sink, &told)),
-        Err(fault) => bad(place(fault)),
+        Err(fault) => bad_reply(InService::ReadReservation, place(fault)),
     }
 }
 
 /// Shows the data of REPORT CAPABILITIES.
 fn show_capabilities<K: Sink>(sink: &mut K, bytes: &[u8]) -> Result<(), PersistExit>
-    ensures { HasShown (text_in capabilities_text (replies.read_capabilities bytes.now))
+    ensures { HasShown (looking ins.ReportCapabilities)
+        (text_in capabilities_text (replies.read_capabilities bytes.now))
         (told_sink K.Sink sink.old) (told_sink K.Sink sink.new) result }
 {
     match read_capabilities(bytes) {
         Ok(told) => written(put_capabilities(sink, &told)),
-        Err(fault) => bad(place(fault)),
+        Err(fault) => bad_reply(InService::ReportCapabilities, place(fault)),
     }
 }
 
 /// Shows the data of READ FULL STATUS.
 fn show_full<K: Sink>(sink: &mut K, bytes: &[u8]) -> Result<(), PersistExit>
-    ensures { HasShown (text_in full_text (replies.read_full bytes.now))
+    ensures { HasShown (looking ins.ReadFullStatus)
+        (text_in full_text (replies.read_full bytes.now))
         (told_sink K.Sink sink.old) (told_sink K.Sink sink.new) result }
 {
     match read_full(bytes) {
         Ok(told) => written(put_full(sink, &told)),
-        Err(fault) => bad(place(fault)),
+        Err(fault) => bad_reply(InService::ReadFullStatus, place(fault)),
     }
 }
 
@@ -99,7 +114,7 @@ pub(crate) fn show<K: Sink>(
     service: InService,
     bytes: &[u8],
 ) -> Result<(), PersistExit>
-    ensures { HasShown (reply_text service bytes.now)
+    ensures { HasShown (looking service) (reply_text service bytes.now)
         (told_sink K.Sink sink.old) (told_sink K.Sink sink.new) result }
 {
     match service {
@@ -116,11 +131,11 @@ pub(crate) fn show<K: Sink>(
 ///
 /// As `show`: data shorter than 36 bytes break their grammar at their end.
 pub(crate) fn show_inquiry<K: Sink>(sink: &mut K, bytes: &[u8]) -> Result<(), PersistExit>
-    ensures { HasShown (inquiry_text bytes.now)
+    ensures { HasShown ask.Inquiry (inquiry_text bytes.now)
         (told_sink K.Sink sink.old) (told_sink K.Sink sink.new) result }
 {
     if bytes.len() < INQUIRY_DATA {
-        return bad(bytes.len());
+        return bad(Asked::Inquiry, bytes.len());
     }
     written(put_inquiry(sink, bytes))
 }

@@ -5,6 +5,7 @@ ghost use Rattle.pr_persist.specs.Asking.{wanted_of};
 ghost use Rattle.pr_persist.specs.Exits.{judged_by, linked_by};
 ghost use Rattle.pr_persist.specs.Runs.{Opens, Enters, Inquires, Acts, Closes, HasDialled, HasLoggedIn, HasLoggedOut, order_of, changes_by};
 
+use crate::asked::Asked;
 use crate::exit::PersistExit;
 use crate::plan::{Action, Fields, Plan};
 use pr_initiator::{Answer, Initiator, LinkFault};
@@ -12,28 +13,31 @@ use pr_io::Wire;
 use pr_words::{InService, Nexus, OutService};
 
 /// The exit of a call that failed.
-fn linked(called: Result<(), LinkFault>) -> Result<(), PersistExit>
-    ensures { result ≡ linked_by called }
+fn linked(asked: Asked, called: Result<(), LinkFault>) -> Result<(), PersistExit>
+    ensures { result ≡ linked_by asked called }
 {
     match called {
         Ok(()) => Ok(()),
-        Err(fault) => Err(PersistExit::Link(fault)),
+        Err(fault) => Err(PersistExit::Link { asked, fault }),
     }
 }
 
 /// The exit of an answer that isn't GOOD (SAM-5, status codes), or of a call that failed.
-fn judged(answer: Result<Answer, LinkFault>) -> Result<Answer, PersistExit>
-    ensures { result ≡ judged_by answer }
+fn judged(asked: Asked, answer: Result<Answer, LinkFault>) -> Result<Answer, PersistExit>
+    ensures { result ≡ judged_by asked answer }
 {
     match answer {
         Ok(answer) => match (answer.status, answer.sense) {
             (0x00, _) => Ok(answer),
-            (0x02, Some(sense)) => Err(PersistExit::Check(sense.code)),
-            (0x02, None) => Err(PersistExit::BadData { place: 0 }),
-            (0x18, _) => Err(PersistExit::Conflict),
-            (status, _) => Err(PersistExit::OddStatus(status)),
+            (0x02, Some(sense)) => Err(PersistExit::Check {
+                asked,
+                code: sense.code,
+            }),
+            (0x02, None) => Err(PersistExit::BadData { asked, place: 0 }),
+            (0x18, _) => Err(PersistExit::Conflict { asked }),
+            (status, _) => Err(PersistExit::OddStatus { asked, status }),
         },
-        Err(fault) => Err(PersistExit::Link(fault)),
+        Err(fault) => Err(PersistExit::Link { asked, fault }),
     }
 }
 
@@ -103,8 +107,8 @@ fn send<W: Wire + Drop>(
 fn enter<W: Wire + Drop>(initiator: &mut Initiator<W>, nexus: Nexus) -> Result<Answer, PersistExit>
     ensures { Enters nexus (link_of initiator.old) (link_of initiator.new) result }
 {
-    match linked(log_in(initiator, nexus)) {
-        Ok(()) => judged(initiator.ready()),
+    match linked(Asked::Login, log_in(initiator, nexus)) {
+        Ok(()) => judged(Asked::Readiness, initiator.ready()),
         Err(exit) => Err(exit),
     }
 }
@@ -120,7 +124,7 @@ pub(crate) fn open<W: Wire + Drop>(
 ) -> Result<Answer, PersistExit>
     ensures { Opens (wanted_of plan.now) (link_of initiator.old) (link_of initiator.new) result }
 {
-    match linked(dial(initiator, plan.address)) {
+    match linked(Asked::Connection, dial(initiator, plan.address)) {
         Ok(()) => enter(initiator, plan.nexus),
         Err(exit) => Err(exit),
     }
@@ -134,7 +138,7 @@ pub(crate) fn open<W: Wire + Drop>(
 pub(crate) fn inquire<W: Wire + Drop>(initiator: &mut Initiator<W>) -> Result<Answer, PersistExit>
     ensures { Inquires (link_of initiator.old) (link_of initiator.new) result }
 {
-    judged(initiator.inquiry())
+    judged(Asked::Inquiry, initiator.inquiry())
 }
 
 /// Sends the command that is asked for.
@@ -149,7 +153,10 @@ pub(crate) fn act<W: Wire + Drop>(
     requires { plan.now.fields.kind < 16 }
     ensures { Acts (wanted_of plan.now) (link_of initiator.old) (link_of initiator.new) result }
 {
-    judged(send(initiator, plan.action, &plan.fields))
+    judged(
+        Asked::Command(plan.action),
+        send(initiator, plan.action, &plan.fields),
+    )
 }
 
 /// Logs out.
@@ -160,5 +167,5 @@ pub(crate) fn act<W: Wire + Drop>(
 pub(crate) fn close<W: Wire + Drop>(initiator: &mut Initiator<W>) -> Result<(), PersistExit>
     ensures { Closes (link_of initiator.old) (link_of initiator.new) result }
 {
-    linked(log_out(initiator))
+    linked(Asked::Logout, log_out(initiator))
 }

@@ -9,4 +9,4 @@ use Rattle.pr_persist.proofs.showing.show_inquiry.Goals as goal
 pub returns : goal.returns
 returns g c =
     let enough : nat_lt (length c.args.bytes.now) 36 ≡ false = le-ltb _ _ c.if-bytes-lt-INQUIRY_DATA.false in
-    told _ (inquiry_line c.args.bytes.now) (told_sink g.K.Sink c.args.sink.now) (told_sink g.K.Sink c.put_inquiry.new.sink) c.put_inquiry.result c.written.result (rw enough refl) c.put_inquiry.ensures c.written.ensures
+    told _ _ (inquiry_line c.args.bytes.now) (told_sink g.K.Sink c.args.sink.now) (told_sink g.K.Sink c.put_inquiry.new.sink) c.put_inquiry.result c.written.result (rw enough refl) c.put_inquiry.ensures c.written.ensures

@@ -1,15 +1,16 @@
 use Rattle.std.specs.Prelude.{Ok, Err}
 use Rattle.pr_words.specs.declared.code.TheConstants as code
 use Rattle.pr_initiator.specs.Commands.{IsReady}
+use Rattle.pr_persist.specs.declared.asked.Asked.TheVariants as ask
 use Rattle.pr_persist.specs.Runs.{HasLoggedIn, Judged, Linked}
 use Rattle.pr_persist.proofs.Stepping.{ended, went, linked}
 use Rattle.pr_persist.proofs.steps.enter.Goals as goal
 
 pub returns-in-Ok : goal.returns-in-Ok
 returns-in-Ok g c =
-    went (Linked (HasLoggedIn c.args.nexus)) (λ u. Judged (IsReady 9 code.Code.NO_SENSE)) _ _ _ tt _ (linked (HasLoggedIn c.args.nexus) _ _ c.log_in.result c.linked.result (Ok tt) c.log_in.ensures c.linked.ensures c.in-Ok.is)
+    went (Linked ask.Login (HasLoggedIn c.args.nexus)) (λ u. Judged ask.Readiness (IsReady 9 code.Code.NO_SENSE)) _ _ _ tt _ (linked ask.Login (HasLoggedIn c.args.nexus) _ _ c.log_in.result c.linked.result (Ok tt) c.log_in.ensures c.linked.ensures c.in-Ok.is)
     (c.ready.result, c.ready.ensures, c.judged.ensures)
 
 pub returns-in-Err : goal.returns-in-Err
 returns-in-Err g c =
-    ended (Linked (HasLoggedIn c.args.nexus)) (λ u. Judged (IsReady 9 code.Code.NO_SENSE)) _ _ c.in-Err.exit (linked (HasLoggedIn c.args.nexus) _ _ c.log_in.result c.linked.result (Err c.in-Err.exit) c.log_in.ensures c.linked.ensures c.in-Err.is)
+    ended (Linked ask.Login (HasLoggedIn c.args.nexus)) (λ u. Judged ask.Readiness (IsReady 9 code.Code.NO_SENSE)) _ _ c.in-Err.exit (linked ask.Login (HasLoggedIn c.args.nexus) _ _ c.log_in.result c.linked.result (Err c.in-Err.exit) c.log_in.ensures c.linked.ensures c.in-Err.is)
