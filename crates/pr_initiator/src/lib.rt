@@ -7,12 +7,14 @@ mod commands;
 mod initiator;
 mod judging;
 mod link_fault;
+mod meaning;
 mod receiving;
 mod speaking;
 
 pub use answer::Answer;
 pub use initiator::Initiator;
 pub use link_fault::LinkFault;
+pub use meaning::Meaning;
 
 #[cfg(test)]
 mod tests;

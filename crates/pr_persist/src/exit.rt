@@ -2,8 +2,9 @@ ghost use Rattle.std.specs.Prelude.{◌≡◌};
 ghost use Rattle.pr_persist.specs.Exits.{link_status as spec_status, status_of};
 
 use crate::asked::Asked;
-use pr_initiator::LinkFault;
+use pr_initiator::{LinkFault, Meaning};
 use pr_words::Code;
+use std::fmt;
 
 /// How a run of `persist` ends.
 #[derive(Clone, Copy, Debug, PartialEq, Eq)]
@@ -79,6 +80,50 @@ impl PersistExit {
             PersistExit::Check { .. } => 12,
             PersistExit::BadData { .. } => 14,
             PersistExit::OddStatus { .. } => 15,
+        }
+    }
+}
+
+/// The name of a status (SAM-5). None where it isn't one.
+fn status_name(status: u8) -> Option<&'static str> {
+    match status {
+        0x04 => Some("CONDITION MET"),
+        0x08 => Some("BUSY"),
+        0x28 => Some("TASK SET FULL"),
+        0x30 => Some("ACA ACTIVE"),
+        0x40 => Some("TASK ABORTED"),
+        _ => None,
+    }
+}
+
+/// What was asked, what came and where, as a user reads it.
+impl fmt::Display for PersistExit {
+    fn fmt<W: fmt::Write>(&self, f: &mut fmt::Formatter<W>) -> fmt::Result {
+        match *self {
+            PersistExit::Done => f.write_str("all was done"),
+            PersistExit::BadWords => f.write_str("the words make no command"),
+            PersistExit::Link { asked, fault } => write!(f, "{asked}: {fault}"),
+            PersistExit::WriteFault => f.write_str("the output couldn't be written"),
+            PersistExit::NoMemory => f.write_str("no memory for the run"),
+            PersistExit::Conflict { asked } => {
+                write!(f, "{asked}: the target answered RESERVATION CONFLICT")
+            }
+            PersistExit::Check { asked, code } => write!(
+                f,
+                "{asked}: the target answered CHECK CONDITION, {}",
+                Meaning(code)
+            ),
+            PersistExit::OddStatus { asked, status } => match status_name(status) {
+                Some(name) => write!(f, "{asked}: the target answered {name}"),
+                None => write!(
+                    f,
+                    "{asked}: the target answered no status, but {status:02X}h"
+                ),
+            },
+            PersistExit::BadData { asked, place } => write!(
+                f,
+                "{asked}: what the target answered breaks its format at byte {place}"
+            ),
         }
     }
 }

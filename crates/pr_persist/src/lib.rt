@@ -5,6 +5,7 @@ mod arguments;
 mod asked;
 mod digits;
 mod exit;
+mod explaining;
 mod full;
 mod numbers;
 mod persist;
@@ -14,10 +15,12 @@ mod running;
 mod showing;
 mod steps;
 mod texts;
+mod word_fault;
 mod words;
 
 pub use asked::Asked;
 pub use exit::PersistExit;
+pub use explaining::explain;
 pub use persist::persist_main;
 pub use plan::Action;
 

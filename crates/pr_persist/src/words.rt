@@ -12,7 +12,7 @@ use std::alloc::Global;
 
 /// The first value of an argument, where it has one.
 #[tactic(auto, using(crate::proofs::Reading::value_is))]
-fn text_of<'a>(matches: &ArgMatches<'a>, id: &str) -> Option<&'a str>
+pub(crate) fn text_of<'a>(matches: &ArgMatches<'a>, id: &str) -> Option<&'a str>
     ensures { option_map (λ s. s.now) result ≡ first_of id.now (rows_of (found_of matches.now)) }
 {
     matches.get_str(id)
@@ -20,7 +20,7 @@ fn text_of<'a>(matches: &ArgMatches<'a>, id: &str) -> Option<&'a str>
 
 /// Whether a flag is given.
 #[tactic(auto, unfolding(crate::specs::Asking::is_set_in))]
-fn is_set(matches: &ArgMatches<'_>, id: &str) -> bool
+pub(crate) fn is_set(matches: &ArgMatches<'_>, id: &str) -> bool
     ensures { result ≡ is_set_in id.now (rows_of (found_of matches.now)) }
 {
     match text_of(matches, id) {
@@ -55,7 +55,7 @@ fn add(matches: &ArgMatches<'_>, id: &str, action: Action, chosen: Chosen) -> Ch
 }
 
 /// The actions that look.
-fn looks_of(matches: &ArgMatches<'_>) -> Chosen
+pub(crate) fn looks_of(matches: &ArgMatches<'_>) -> Chosen
     ensures { result ≡ looks_in (rows_of (found_of matches.now)) }
 {
     let chosen = add(
@@ -120,7 +120,7 @@ fn in_direction(is_in: bool, is_out: bool, chosen: Chosen) -> Option<Action>
 
 /// What to do: READ KEYS, where nothing is said.
 #[tactic(auto, unfolding(crate::specs::Asking::action_in))]
-fn action_of(matches: &ArgMatches<'_>) -> Option<Action>
+pub(crate) fn action_of(matches: &ArgMatches<'_>) -> Option<Action>
     ensures { result ≡ action_in (rows_of (found_of matches.now)) }
 {
     in_direction(
