@@ -6,37 +6,52 @@ mod media;
 
 use line::{command_line, cut};
 use media::{fresh_image, zero_blocks};
-use pr_io::{StdinSource, StdoutSink, SureDisk, SureMedium};
+use pr_io::{StdinSource, StdoutSink, SureDisk, SureMedium, TcpWire};
+use pr_persist::{explain, persist_main};
 use pr_tool::{Exit, replay_main, show_main};
 use std::alloc::AllocError;
+use std::fmt::Display;
 use std::io::ErrorKind;
 use std::process::ExitCode;
 
 fn main(rt: HostRuntime) -> ExitCode {
-    let exit = run(&rt);
-    if let Some(fault) = exit.fault() {
-        // Where the line can't be written, the status still says what was wrong.
-        let _ = eprintln!(rt; "prtool: {fault}");
-    }
-    ExitCode::from(exit.status())
+    ExitCode::from(run(&rt))
 }
 
-/// Runs the command that the words of the command line make.
-fn run(rt: &HostRuntime) -> Exit {
+/// Runs the command that the words of the command line make, and gives its status.
+fn run(rt: &HostRuntime) -> u8 {
     match command_line(rt) {
-        Ok(line) => command(rt, line.as_str()).unwrap_or(Exit::NoMemory),
-        Err(error) if error.kind() == ErrorKind::OutOfMemory => Exit::NoMemory,
-        Err(_) => Exit::BadWords,
+        Ok(line) => match command(rt, line.as_str()) {
+            Ok(status) => status,
+            Err(_) => ended(rt, Exit::NoMemory),
+        },
+        Err(error) if error.kind() == ErrorKind::OutOfMemory => ended(rt, Exit::NoMemory),
+        Err(_) => ended(rt, Exit::BadWords),
     }
 }
 
 /// Runs the command of these words, the first of which is the program's name.
-fn command(rt: &HostRuntime, line: &str) -> Result<Exit, AllocError> {
+fn command(rt: &HostRuntime, line: &str) -> Result<u8, AllocError> {
     let words = cut(rt.alloc(), line)?;
     match &words[1..] {
-        ["show"] => show(rt),
-        words => replay(rt, words),
+        ["show"] => Ok(ended(rt, show(rt)?)),
+        words @ ["persist", ..] => Ok(persist(rt, words)),
+        words => Ok(ended(rt, replay(rt, words)?)),
     }
+}
+
+/// Tells the user what is wrong.
+fn complain<F: Display>(rt: &HostRuntime, fault: &F) {
+    // Where the line can't be written, the status still says what was wrong.
+    let _ = eprintln!(rt; "prtool: {fault}");
+}
+
+/// The status of a run over streams, of whose fault the user is told.
+fn ended(rt: &HostRuntime, exit: Exit) -> u8 {
+    if let Some(fault) = exit.fault() {
+        complain(rt, &fault);
+    }
+    exit.status()
 }
 
 /// Shows the frames on standard input.
@@ -55,4 +70,16 @@ fn replay(rt: &HostRuntime, words: &[&str]) -> Result<Exit, AllocError> {
     let mut medium = SureMedium::new(zero_blocks(alloc)?);
     let mut disk = SureDisk::new(fresh_image(alloc)?);
     Ok(replay_main(alloc, words, &mut source, &mut sink, &mut medium, &mut disk))
+}
+
+/// Asks a target over TCP what the words ask, and tells the user of a fault.
+fn persist(rt: &HostRuntime, words: &[&str]) -> u8 {
+    let alloc = rt.alloc();
+    let mut wire = TcpWire::new(rt);
+    let mut sink = StdoutSink::new(rt.stdout());
+    let exit = persist_main(alloc, words, &mut wire, &mut sink);
+    if let Ok(Some(line)) = explain(alloc, words, exit) {
+        complain(rt, &line);
+    }
+    exit.status()
 }
