@@ -18,7 +18,7 @@ fn message_of(text: &str) -> &str {
 /// The lines of a text in one, with a space between each two.
 fn joined(alloc: Global, text: &str) -> Result<String, AllocError> {
     let mut line = String::new(alloc);
-    for part in text.split('\n') {
+    for part in text.trim().split('\n') {
         if !line.is_empty() {
             line.push(' ')?;
         }

@@ -23,6 +23,3 @@ pub use exit::PersistExit;
 pub use explaining::explain;
 pub use persist::persist_main;
 pub use plan::Action;
-
-#[cfg(test)]
-mod tests;
