@@ -1,5 +1,8 @@
 //! A case as it stands, and where it ends well, with each thing in turn that may go wrong in it.
 
+ghost use Rattle.std.specs.Prelude.{◌≡◌, OnOk};
+ghost use Rattle.std.specs.String.{string_bytes};
+
 use crate::case::Case;
 use crate::flaw::Flaw;
 use crate::running::{Failing, Outcome, Trial};
@@ -19,7 +22,10 @@ fn has_failed(case: &Case, outcome: &Outcome, status: u8) -> bool {
 }
 
 /// Compares what came with what was to come.
-fn judge(case: &Case, outcome: &Outcome) -> Result<(), Flaw> {
+fn judge(case: &Case, outcome: &Outcome) -> Result<(), Flaw>
+    ensures status { OnOk result (outcome.now.status ≡ case.now.status) }
+    ensures text { OnOk result (outcome.now.text.items ≡ string_bytes case.now.text) }
+{
     if outcome.status != case.status {
         return Err(Flaw::OtherStatus(outcome.status));
     }
