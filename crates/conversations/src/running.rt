@@ -5,7 +5,7 @@ ghost use Rattle.conversations.specs.declared.running.Verdict.TheVariants.{Met};
 
 use crate::case::{Below, Case, RECORD, Stream, input_of, output_of};
 use crate::flaw::Flaw;
-use pr_io::{MemMedium, MemSink, MemSource, SureDisk};
+use pr_io::{DISK, FRESH_HEAD, MemMedium, MemSink, MemSource, SureDisk};
 use pr_tool::{Exit, replay_main, show_main};
 use std::alloc::Global;
 
@@ -47,8 +47,15 @@ fn medium_of(alloc: Global, below: &Below) -> Result<MemMedium, Flaw> {
     Ok(MemMedium::new(bytes, below.failing.clone()?))
 }
 
+/// A disk on which nothing was kept yet.
+fn fresh_disk(alloc: Global) -> Result<SureDisk, Flaw> {
+    let mut image = FRESH_HEAD.to_vec(alloc)?;
+    image.resize(DISK, 0)?;
+    Ok(SureDisk::new(image))
+}
+
 /// Runs the command of these words, with streams that move at most so many bytes a call, over a
-/// medium and a disk of zeros.
+/// medium of zeros and a disk on which nothing was kept yet.
 fn run(
     alloc: Global,
     words: &[&str],
@@ -65,7 +72,7 @@ fn run(
         return Ok((exit, sink));
     }
     let mut medium = medium_of(alloc, below)?;
-    let mut disk = SureDisk::new(vec![in alloc; 0u8; 262_144]?);
+    let mut disk = fresh_disk(alloc)?;
     let exit = replay_main(alloc, words, &mut source, &mut sink, &mut medium, &mut disk);
     Ok((exit, sink))
 }

@@ -6,7 +6,7 @@ use Rattle.pr_grammar.specs.Standings.{Kept}
 use Rattle.pr_grammar.specs.Files.{Restoration, Keeps}
 use Rattle.pr_io.specs.Images.{Image, Story, Within, Written}
 use Rattle.pr_io.specs.Spans.{Goes, Admits, Torn, Puts}
-use Rattle.pr_aptpl.specs.Doubts.{IsOneOf}
+use Rattle.pr_model.specs.Stamps.{IsOneOf}
 use Rattle.pr_aptpl.specs.Gates.{Guards, Guarded, Closes}
 use Rattle.pr_aptpl.proofs.Slots.{in_first, in_last}
 

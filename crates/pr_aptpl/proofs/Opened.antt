@@ -8,7 +8,7 @@ use Rattle.pr_grammar.specs.declared.file.FileLayout.{FileLayout}
 use Rattle.pr_io.specs.Images.{Image, Story, Within, Stays}
 use Rattle.pr_io.specs.Spans.{Admits}
 use Rattle.pr_io.proofs.Spanning.{Since}
-use Rattle.pr_aptpl.specs.Doubts.{IsOneOf}
+use Rattle.pr_model.specs.Stamps.{IsOneOf}
 use Rattle.pr_aptpl.specs.Gates.{Guards}
 use Rattle.pr_aptpl.specs.Slots.{IsCurrent, SlotFacts, IsApart}
 use Rattle.pr_aptpl.specs.Opens.{IsOther, IsTarget, Joins, first_of, first_diff, OpensAt, HeadSays, FailsAt}

@@ -8,7 +8,8 @@ use Rattle.pr_io.specs.Images.{Image, Story}
 use Rattle.pr_io.specs.Spans.{Goes, Admits, Puts}
 use Rattle.pr_model.specs.Keeping.{kept}
 use Rattle.pr_model.specs.Registrants.{IsWellFormed}
-use Rattle.pr_aptpl.specs.Doubts.{IsOneOf, HavePorts, AreInFields}
+use Rattle.pr_model.specs.Stamps.{IsOneOf}
+use Rattle.pr_aptpl.specs.Doubts.{HavePorts, AreInFields}
 use Rattle.pr_aptpl.specs.Gates.{Closes}
 use Rattle.pr_aptpl.specs.Slots.{turn_after, SlotFacts, IsApart, IsFilled, Stands}
 use Rattle.pr_aptpl.specs.Keepers.{left_by}
@@ -29,7 +30,7 @@ module _ (head : List ℕ) (l : FileLayout) (apart : IsApart head l) where
   abbrev pub Ends : {T E : Type 0} → Result T E → Bool → Option ℕ → Bool → Story → Story → List Kept → Kept → Type 0
   Ends q t turn o s0 s1 ks k = Goes s0 s1 (Restores (ks ++ k ∷ [])) × ((c : Image) → Admits s1 c → Restores (left_by q ks k) c) × Stands head l t turn o s1 (left_by q ks k)
 
-  restores_of : (t : Bool) (turn : Option ℕ) (o : Bool) (s : Story) (ks : List Kept) → Stands head l t turn o s ks → (c : Image) → Admits s c → Restores ks c
+  pub restores_of : (t : Bool) (turn : Option ℕ) (o : Bool) (s : Story) (ks : List Kept) → Stands head l t turn o s ks → (c : Image) → Admits s c → Restores ks c
   restores_of t turn o s ks stands c admitted =
       guards_restores (restores head l) (place_of l t) (is_in l t) (SlotFacts head l t turn) (gate_covered head l apart t) (facts_stay head l apart t turn) (closed_restores head l apart t turn) (facts_more head l apart t turn) o ks c (stands c admitted)
 

@@ -7,7 +7,7 @@ use Rattle.pr_grammar.specs.Files.{cut, Slot, Closed, Open, Keeps, slot, restore
 use Rattle.pr_grammar.specs.declared.file.FileLayout.{FileLayout}
 use Rattle.pr_io.specs.Images.{Image, Story, Within, Written}
 use Rattle.pr_io.specs.Spans.{Admits, Puts}
-use Rattle.pr_aptpl.specs.Doubts.{IsOneOf}
+use Rattle.pr_model.specs.Stamps.{IsOneOf}
 use Rattle.pr_aptpl.specs.Gates.{Guards}
 use Rattle.pr_aptpl.specs.Slots.{IsCurrent, turn_after, SlotFacts, IsApart, IsFilled, Stands}
 use Rattle.pr_aptpl.proofs.Slots.{cut_same, wrong_same, joined, part_joined, joined_closed, joined_newer, joined_alone, closed_slot, not_not, turn_after_small, within_more, current_more, current_none, current_some}

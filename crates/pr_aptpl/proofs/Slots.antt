@@ -4,7 +4,8 @@ use Rattle.std.proofs.lemmas.Bool.{ne_eqb}
 use Rattle.pr_io.specs.Images.{Image, Within}
 use Rattle.pr_grammar.specs.Standings.{Kept, Nothing}
 use Rattle.pr_grammar.specs.Files.{cut, Slot, Closed, Open, Broken, Restoration, Keeps, Bad, slot, opened, both, next_turn, part, slot_at, first_wrong, slot_size}
-use Rattle.pr_aptpl.specs.Doubts.{IsIn, IsOneOf}
+use Rattle.pr_model.specs.Keeping.{IsIn}
+use Rattle.pr_model.specs.Stamps.{IsOneOf}
 use Rattle.pr_aptpl.specs.Slots.{IsCurrent, turn_after}
 use Rattle.pr_grammar.specs.declared.file.FileLayout.{FileLayout}
 

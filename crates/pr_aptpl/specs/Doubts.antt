@@ -1,19 +1,9 @@
 -- Kept values that a file may restore (this project's own).
-use Rattle.std.specs.Prelude.{◌≡◌, ◌⊎◌, ◌<◌, ◌^◌, List, [], ◌∷◌, All, IsTrue}
+use Rattle.std.specs.Prelude.{◌<◌, ◌^◌, List, All, IsTrue}
 use Rattle.pr_words.specs.declared.nexus.Pair.{Pair}
 use Rattle.pr_grammar.specs.Standings.{Kept, is_port}
-use Rattle.pr_grammar.specs.Files.{Restoration, Keeps, Bad}
 use Rattle.pr_model.specs.Registrants.{IsWellFormed}
 use Rattle.pr_model.specs.Worlds.{restored}
-
-abbrev pub IsIn : List Kept → Kept → Type 0
-IsIn [] k = ⊥
-IsIn (x ∷ xs) k = (x ≡ k) ⊎ IsIn xs k
-
--- a kept value, which is one of these
-abbrev pub IsOneOf : List Kept → Restoration → Type 0
-IsOneOf ks (Keeps k) = IsIn ks k
-IsOneOf ks (Bad place) = ⊥
 
 -- each registration has one of the target's ports
 abbrev pub HavePorts : List Pair → Type 0

@@ -4,7 +4,7 @@ use Rattle.pr_grammar.specs.Standings.{Kept}
 use Rattle.pr_grammar.specs.Files.{Restoration}
 use Rattle.pr_io.specs.Images.{Image, Story, Within}
 use Rattle.pr_io.specs.Spans.{Admits, Puts, Settles}
-use Rattle.pr_aptpl.specs.Doubts.{IsOneOf}
+use Rattle.pr_model.specs.Stamps.{IsOneOf}
 
 -- An image, of whose places outside the part these facts hold. Where the gate may be open, whatever stands there, it restores
 -- one of these kept values; where it may not, it isn't open.

@@ -1,11 +1,11 @@
 -- What a keeper stands for (this project's own).
-use Rattle.std.specs.Prelude.{List, [], ◌∷◌, ◌++◌, Result, Ok, Err}
+use Rattle.std.specs.Prelude.{Bool, List, [], ◌∷◌, ◌++◌, Result, Ok, Err}
 use Rattle.pr_grammar.specs.Standings.{Kept}
 use Rattle.pr_grammar.specs.Files.{file_head, file_layout, file_restores}
 use Rattle.pr_io.specs.Images.{Image, Story, Stays}
 use Rattle.pr_io.specs.Spans.{Admits, Goes}
 use Rattle.pr_io.specs.declared.outside.Disk as disks
-use Rattle.pr_aptpl.specs.Doubts.{IsOneOf}
+use Rattle.pr_model.specs.Stamps.{IsOneOf}
 use Rattle.pr_aptpl.specs.Slots.{Stands}
 use Rattle.pr_aptpl.specs.Opens.{OpensAt}
 use Rattle.pr_aptpl.specs.declared.keeper.Keeper.{Keeper}
@@ -16,8 +16,15 @@ left_by (Ok x) ks k = k ∷ []
 left_by (Err e) ks k = ks ++ k ∷ []
 
 module _ {D : Type 0} {of_disk : disks.Ghosts D} where
+  abbrev pub disk_of : Keeper D of_disk → D
+  disk_of k = k.disk
+
   abbrev pub story_of : Keeper D of_disk → Story
   story_of k = of_disk.story k.disk
+
+  -- the last save since the opening failed
+  abbrev pub is_in_doubt : Keeper D of_disk → Bool
+  is_in_doubt k = k.in_doubt
 
   -- all that the disk may hold restores one of these kept values, also whatever a save does to it next
   abbrev pub StandsFor : Keeper D of_disk → List Kept → Type 0

@@ -4,7 +4,7 @@ use Rattle.pr_grammar.specs.Standings.{Kept, Nothing}
 use Rattle.pr_grammar.specs.Files.{Slot, Closed, Open, restores, slot_at, place_of, first_wrong, next_turn, slot, cut, slot_size}
 use Rattle.pr_grammar.specs.declared.file.FileLayout.{FileLayout}
 use Rattle.pr_io.specs.Images.{Image, Story}
-use Rattle.pr_aptpl.specs.Doubts.{IsIn}
+use Rattle.pr_model.specs.Keeping.{IsIn}
 use Rattle.pr_aptpl.specs.Gates.{Guarded}
 
 -- the slot that isn't written next is current, with this turn, or no slot is

@@ -1,4 +1,4 @@
-ghost use Rattle.std.specs.Prelude.{◌≡◌, ◌≤◌, ◌+◌, ◌↔◌, List, length, take, IfOk, IfErr, IsErr, IsTrue, true, false};
+ghost use Rattle.std.specs.Prelude.{◌≡◌, ◌≤◌, ◌+◌, ◌↔◌, List, length, take, IfOk, IfErr, IsErr, IsTrue, MatchResult, true, false};
 ghost use Rattle.pr_grammar.specs.Standings.{Kept};
 ghost use Rattle.pr_grammar.specs.Files.{file_head, file_layout, spelled_slot};
 ghost use Rattle.pr_io.specs.Causes.{HasCause};
@@ -48,7 +48,7 @@ fn spell_into(buffer: &mut Vec<u8>, turn: u8, table: &Table) -> usize
 }
 
 impl<D: Disk> Keeper<D> {
-    ghost use Rattle.pr_aptpl.specs.Keepers.{Opens, Saves, StandsFor};
+    ghost use Rattle.pr_aptpl.specs.Keepers.{Opens, Saves, StandsFor, disk_of, is_in_doubt};
 
     /// Opens the registrations' file on a disk, and gives what was kept. It begins with a sync, reads
     /// at most 4 KiB, and writes nothing. Where it fails the disk comes back.
@@ -60,8 +60,11 @@ impl<D: Disk> Keeper<D> {
     pub fn open(alloc: Global, disk: D) -> Result<(Keeper<D>, Kept), (OpenFault, D)>
         ensures opens { IfOk result (λ r. Opens (D.story disk) r.0 r.1) }
         ensures sound { IfOk result (λ r. IsKeepable r.1) }
-        ensures calm { IfOk result (λ r. (D.faults r.0.disk ≡ D.faults disk)
-            × (r.0.in_doubt ≡ false)) }
+        ensures calm { IfOk result (λ r. (D.faults (disk_of r.0) ≡ D.faults disk)
+            × (is_in_doubt r.0 ≡ false)) }
+        ensures reference { MatchResult result
+            (λ r. D.reference (disk_of r.0) ≡ D.reference disk)
+            (λ e. D.reference e.1 ≡ D.reference disk) }
         ensures fails { IfErr result (λ e. FailsAt file_head file_layout e.0 (D.story disk)
             × Stays (D.story disk) (D.story e.1)) }
         ensures fault { IfErr result (λ e. IsFaultOf e.0 (D.faults disk) (D.faults e.1)) }
@@ -95,8 +98,10 @@ impl<D: Disk> Keeper<D> {
         requires ports { HavePorts (standing_of table.now).pairs }
         ensures saves { (ks : List Kept) → StandsFor self.old ks
             → Saves self.old self.new ks (kept (standing_of table.now)) result }
-        ensures doubt { IsTrue self.new.in_doubt ↔ IsErr result }
-        ensures cause { HasCause (D.faults self.old.disk) (D.faults self.new.disk) result }
+        ensures doubt { IsTrue (is_in_doubt self.new) ↔ IsErr result }
+        ensures reference { D.reference (disk_of self.new) ≡ D.reference (disk_of self.old) }
+        ensures cause { HasCause (D.faults (disk_of self.old)) (D.faults (disk_of self.new))
+            result }
     {
         self.in_doubt = true;
         let gate = self.aim.gate(&FILE);
@@ -113,14 +118,14 @@ impl<D: Disk> Keeper<D> {
 
     /// Whether the last save since the opening failed.
     pub fn in_doubt(&self) -> bool
-        ensures { result ≡ self.now.in_doubt }
+        ensures { result ≡ is_in_doubt self.now }
     {
         self.in_doubt
     }
 
     /// The disk, on which the file stands as the last save left it.
     pub fn into_disk(self) -> D
-        ensures { result ≡ self.disk }
+        ensures { result ≡ disk_of self }
     {
         self.disk
     }

@@ -44,6 +44,7 @@ fn read_head<D: Disk>(disk: &mut D) -> Result<(), OpenFault>
     ensures says { (image : Image) → (D.story disk.old).now ≡ Some image
         → HeadSays result (first_diff file_head (cut image 0 9) 0) }
     ensures stays { Stays (D.story disk.old) (D.story disk.new) }
+    ensures reference { D.reference disk.new ≡ D.reference disk.old }
     ensures calm { IfOk result (λ _. D.faults disk.new ≡ D.faults disk.old) }
     ensures fault { IfErr result (λ e. IsFaultOf e (D.faults disk.old) (D.faults disk.new)) }
 {
@@ -63,6 +64,7 @@ fn read_into<D: Disk>(disk: &mut D, buffer: &mut Vec<u8>, at: u64) -> Result<(),
     ensures bytes { OnOk result (Reads (D.story disk.old).now at buffer.new.items) }
     ensures room { length buffer.new.items ≡ length buffer.old.items }
     ensures stays { Stays (D.story disk.old) (D.story disk.new) }
+    ensures reference { D.reference disk.new ≡ D.reference disk.old }
     ensures cause { HasCause (D.faults disk.old) (D.faults disk.new) result }
 {
     disk.read_at(at, buffer)
@@ -82,6 +84,7 @@ fn read_part<D: Disk>(
     ensures sound { IfOk result (λ s. IsSound (slot_of s)) }
     ensures room { length buffer.new.items ≡ 1168 }
     ensures stays { Stays (D.story disk.old) (D.story disk.new) }
+    ensures reference { D.reference disk.new ≡ D.reference disk.old }
     ensures calm { IfOk result (λ _. D.faults disk.new ≡ D.faults disk.old) }
     ensures fault { IfErr result (λ e. IsFaultOf e (D.faults disk.old) (D.faults disk.new)
         × IsNotBad e) }
@@ -177,6 +180,7 @@ fn read_slots<D: Disk>(
     ensures sound { IfOk result (λ r. IsSound (slot_of r.0) × IsSound (slot_of r.1)) }
     ensures room { length buffer.new.items ≡ 1168 }
     ensures stays { Stays (D.story disk.old) (D.story disk.new) }
+    ensures reference { D.reference disk.new ≡ D.reference disk.old }
     ensures calm { IfOk result (λ _. D.faults disk.new ≡ D.faults disk.old) }
     ensures fault { IfErr result (λ e. IsFaultOf e (D.faults disk.old) (D.faults disk.new)
         × IsNotBad e) }
@@ -204,6 +208,7 @@ pub(crate) fn open_file<D: Disk>(
     ensures fails { IfErr result (λ e. FailsAt file_head file_layout e (D.story disk.old)) }
     ensures room { length buffer.new.items ≡ 1168 }
     ensures stays { Stays (D.story disk.old) (D.story disk.new) }
+    ensures reference { D.reference disk.new ≡ D.reference disk.old }
     ensures calm { IfOk result (λ _. D.faults disk.new ≡ D.faults disk.old) }
     ensures fault { IfErr result (λ e. IsFaultOf e (D.faults disk.old) (D.faults disk.new)) }
 {

@@ -15,6 +15,7 @@ pub(crate) fn close<D: Disk>(disk: &mut D, gate: u64, may_be_open: &mut bool) ->
     requires { gate < disk_size }
     ensures closes { Closes result gate may_be_open.old may_be_open.new (D.story disk.old)
         (D.story disk.new) }
+    ensures reference { D.reference disk.new ≡ D.reference disk.old }
     ensures cause { HasCause (D.faults disk.old) (D.faults disk.new) result }
 {
     if *may_be_open {
@@ -30,6 +31,7 @@ pub(crate) fn close<D: Disk>(disk: &mut D, gate: u64, may_be_open: &mut bool) ->
 pub(crate) fn fill<D: Disk>(disk: &mut D, gate: u64, body: &[u8]) -> Result<(), Failed>
     requires { gate + 1 + length body.now ≤ disk_size }
     ensures puts { Puts result (gate + 1) body.now (D.story disk.old) (D.story disk.new) }
+    ensures reference { D.reference disk.new ≡ D.reference disk.old }
     ensures cause { HasCause (D.faults disk.old) (D.faults disk.new) result }
 {
     put(disk, gate + 1, body)
@@ -39,6 +41,7 @@ pub(crate) fn fill<D: Disk>(disk: &mut D, gate: u64, body: &[u8]) -> Result<(), 
 pub(crate) fn open_gate<D: Disk>(disk: &mut D, gate: u64) -> Result<(), Failed>
     requires { gate < disk_size }
     ensures puts { Puts result gate (0xA5 ∷ []) (D.story disk.old) (D.story disk.new) }
+    ensures reference { D.reference disk.new ≡ D.reference disk.old }
     ensures cause { HasCause (D.faults disk.old) (D.faults disk.new) result }
 {
     put(disk, gate, &[OPEN])

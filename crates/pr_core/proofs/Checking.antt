@@ -1,5 +1,5 @@
 -- Checks that pass or refuse, group by group.
-use Rattle.std.proofs.Common.{◌≡◌, ◌⊎◌, inl, inr, ℕ, ◌==◌, ◌*◌, Result, IsErr, IsErrAnd, Bool, true, false, not, cond, List, [], ◌∷◌, ◌++◌, length, refl, sym, ap, ◌∙◌, subst, lit<, arith, Ok, Err, Option, Some, None}
+use Rattle.std.proofs.Common.{◌≡◌, ℕ, ◌==◌, ◌*◌, Result, IsErr, IsErrAnd, Bool, true, false, not, cond, List, [], ◌∷◌, ◌++◌, length, refl, sym, ap, ◌∙◌, subst, lit<, arith, Ok, Err, Option, Some, None}
 use Rattle.std.proofs.lemmas.Bool.Decides.{nat_tests}
 use Rattle.pr_words.specs.declared.service.OutService.{OutService}
 use Rattle.pr_words.specs.Services.{out_service_code}
@@ -54,7 +54,7 @@ pub record ReadsList (action scope kind len : ℕ) (sent : List ℕ) (service : 
 -- the checks that are left
 past_length : (action scope kind len : ℕ) (sent : List ℕ) (service : OutService) (list : OutList) (w : World) (last : Answer) → ReadsList action scope kind len sent service list
     → first_or (command_checks w (ReserveOut action scope kind len) sent) last
-    ≡ first_or (refused_where (has_bad_list (out_service_code service) list) w invalid_list ∷ refused_where list.aptpl w invalid_list ∷ []) last
+    ≡ first_or (refused_where (has_bad_list (out_service_code service) list) w invalid_list ∷ []) last
 past_length action scope kind len sent service list w last r =
     let parts = read_parts (length sent == 24) (Length (length sent)) list (list_of sent) r.read in
     let long : (length sent == len) ≡ true = not_refused (length sent == len) (answer w (checking list_length_error)) (r.announced w) in
@@ -62,30 +62,19 @@ past_length action scope kind len sent service list w last r =
     let fit : has_bad_service action scope kind ≡ false = subst (λ (a : ℕ). has_bad_service a scope kind ≡ false) r.named r.fit in
     rw (fit, long, whole, parts.1, r.named) refl
 
-pub list_passes : (blocks action scope kind len : ℕ) (sent : List ℕ) (service : OutService) (list : OutList) → ReadsList action scope kind len sent service list → has_bad_list (out_service_code service) list ≡ false → list.aptpl ≡ false
+pub list_passes : (blocks action scope kind len : ℕ) (sent : List ℕ) (service : OutService) (list : OutList) → ReadsList action scope kind len sent service list → has_bad_list (out_service_code service) list ≡ false
     → PassesCommand blocks (ReserveOut action scope kind len) sent (Ok (admitted.ReserveOut (record { service = service; scope = scope; kind = kind }) list))
-list_passes blocks action scope kind len sent service list r good transient = (
+list_passes blocks action scope kind len sent service list r good = (
   (len, ap (λ (a : ℕ). ReserveOut a scope kind len) (sym r.named), (read_parts (length sent == 24) (Length (length sent)) list (list_of sent) r.read).1),
   tt,
-  λ w count last. past_length action scope kind len sent service list w last r ∙ (rw (good, transient) refl),
+  λ w count last. past_length action scope kind len sent service list w last r ∙ (rw good refl),
   tt,
 )
 
-pub list_fails : (blocks action scope kind len : ℕ) (sent : List ℕ) (service : OutService) (list : OutList) → ReadsList action scope kind len sent service list → (bad : Bool) → has_bad_list (out_service_code service) list ≡ bad → (bad ≡ true) ⊎ (list.aptpl ≡ true)
+pub list_fails : (blocks action scope kind len : ℕ) (sent : List ℕ) (service : OutService) (list : OutList) → ReadsList action scope kind len sent service list → has_bad_list (out_service_code service) list ≡ true
     → PassesCommand blocks (ReserveOut action scope kind len) sent (Err invalid_list)
-list_fails blocks action scope kind len sent service list r bad is fails = (
-  lit< tt,
-  λ w count last.
-      past_length action scope kind len sent service list w last r
-      ∙ ap (λ (b : Bool). first_or (refused_where b w invalid_list ∷ refused_where list.aptpl w invalid_list ∷ []) last) is
-      ∙ by w last bad fails,
-)
-  where
-    by : (w : World) (last : Answer) (b : Bool) → (b ≡ true) ⊎ (list.aptpl ≡ true)
-        → first_or (refused_where b w invalid_list ∷ refused_where list.aptpl w invalid_list ∷ []) last ≡ answer w (checking invalid_list)
-    by w last true f = refl
-    by w last false (inl e) = absurd cc
-    by w last false (inr e) = rw e refl
+list_fails blocks action scope kind len sent service list r bad =
+    ((lit< tt, lit< tt), λ w count last. past_length action scope kind len sent service list w last r ∙ ap (λ (b : Bool). first_or (refused_where b w invalid_list ∷ []) last) bad)
 
 -- READ and WRITE
 pub read_passes : (blocks : ℕ) (wide : Bool) (protect lba count : ℕ) (sent : List ℕ) (r : Result Admitted Code) → PassesTransfer blocks ways.Read protect lba count 0 sent r → PassesCommand blocks (Read wide protect lba count) sent r

@@ -5,8 +5,10 @@ pub mod Checking
 pub mod Sitting
 pub mod Admitting
 pub mod Reserving
-pub mod Bare
+pub mod Restoring
 pub mod Going
 pub mod Tasked
 pub mod Owned
 pub mod StepLaws
+pub mod Settled
+pub mod Asked

@@ -1,5 +1,5 @@
 -- A PERSISTENT RESERVE OUT moves the worlds.
-use Rattle.std.proofs.Common.{◌≡◌, ℕ, ◌==◌, not, Bool, true, false, cond, List, [], ◌∷◌, Option, Some, None, is_some, option_map, inl, inr, ◌&&◌, refl, sym, ap, ◌∙◌, subst}
+use Rattle.std.proofs.Common.{◌≡◌, ℕ, ◌==◌, not, Bool, true, false, cond, List, [], ◌∷◌, ◌++◌, Result, Ok, Err, Option, Some, None, is_some, option_map, inl, inr, ◌&&◌, refl, sym, ap, ◌∙◌, subst}
 use std.Path.{fun_ext}
 use Rattle.pr_words.specs.declared.nexus.Nexus.{Nexus}
 use Rattle.pr_words.specs.declared.nexus.Pair.{Pair}
@@ -17,7 +17,13 @@ use Rattle.pr_model.specs.Entries.{Out}
 use Rattle.pr_model.specs.Commands.{answer, good, conflict, checking, by_verdict, reserve_out}
 use Rattle.pr_model.proofs.Orders.{same_is}
 use Rattle.pr_model.proofs.Reaching.{acted_knows, acted_reaches}
+use Rattle.pr_io.specs.declared.outside.Disk as disks
+use Rattle.pr_model.specs.Keeping.{kept, same_kept}
+use Rattle.pr_model.specs.Saving.{target_failure}
+use Rattle.pr_model.specs.Histories.{failures_by}
+use Rattle.pr_table.specs.declared.table.Table.{Table}
 use Rattle.pr_table.specs.Tables.{standing_of, limit_of}
+use Rattle.pr_aptpl.specs.declared.keeper.Keeper.{Keeper}
 use Rattle.pr_table.specs.declared.request.OutRequest.{OutRequest}
 use Rattle.pr_table.specs.declared.verdict.Verdict.{Verdict}
 use Rattle.pr_table.specs.Told as table
@@ -32,7 +38,9 @@ use Rattle.pr_core.specs.Seats.{seat_of, count_of, attentions_in, owner_in, task
 use Rattle.pr_core.specs.Telling.{raised_where, told_seat, marked_seat}
 use Rattle.pr_core.specs.Fitting.{Fits, AllFit}
 use Rattle.pr_core.specs.States.{world_with, Depicts, progress_in}
+use Rattle.pr_core.specs.Saves.{Holds, SavesTo, Counts}
 use Rattle.pr_core.specs.Admits.{Reserves}
+use Rattle.pr_core.proofs.Settled.{ends_still, ends_saved, ends_unsaved, counts_still, refusal_counts, lit_five}
 
 -- the seat of a nexus is its own
 pub seat_in_is : (seats : List Seat) (m : Nexus) (s : Seat) → seat_in seats m ≡ Some s → s.nexus ≡ m
@@ -149,7 +157,7 @@ attentions_told f g n a tells m = by (f m) refl
 
 -- the world after an act that is accepted
 abbrev next : World → Nexus → ℕ → Acted → World
-next w n action a = record w { standing = a.standing; attentions = told n a w.attentions; task = marked action a.removed w.task }
+next w n action a = record w { standing = a.standing; attentions = told n a w.attentions; task = marked action a.removed w.task; doubts = [] }
 
 accepted : (w : World) (n : Nexus) (action : ℕ) (a : Acted) → a.verdict ≡ Good → reserve_out w n action a ≡ answer (next w n action a) (good [])
 accepted w n action a is = ap (λ (v : Verdicts). by_verdict w (next w n action a) v) is
@@ -166,57 +174,93 @@ standing_in s w depicts = ap (λ (x : World). x.standing) depicts.world
 same_depicts : (old new : State) (w : World) → standing_of new.table ≡ standing_of old.table → new.blocks ≡ old.blocks → new.seats ≡ old.seats → Depicts old w → Depicts new w
 same_depicts old new w standing blocks seats depicts =
     record {
-      medium = depicts.medium;
       blocks = depicts.blocks ∙ sym blocks;
       known = depicts.known;
       lists = rw seats depicts.lists;
       world = depicts.world ∙ rw (standing, seats) refl;
     }
 
-pub reserves_conflict : (old new : State) (n : Nexus) (o : ReserveOut) (result : CommandOut) → standing_of new.table ≡ standing_of old.table → new.blocks ≡ old.blocks → new.seats ≡ old.seats → (acted LIMIT (standing_of old.table) n o).verdict ≡ Conflict → result ≡ outs.Ended status.ReservationConflict None 0 → Reserves old new n o result
-reserves_conflict old new n o result standing blocks seats is told w depicts =
-    (w, same_depicts old new w standing blocks seats depicts, λ buf. ap (λ (s : Standing). reserve_out w n o.action (acted LIMIT s n o)) (standing_in old w depicts) ∙ conflicting w n o.action (acted LIMIT (standing_of old.table) n o) is ∙ ap (λ (r : CommandOut). answer w (out_of r buf)) (sym told))
+module _ {D : Type 0} {gd : disks.Ghosts D} where
+  pub reserves_conflict : (old new : State) (k : Keeper D gd) (n : Nexus) (o : ReserveOut) (result : CommandOut) → standing_of new.table ≡ standing_of old.table → new.blocks ≡ old.blocks → new.seats ≡ old.seats → (acted LIMIT (standing_of old.table) n o).verdict ≡ Conflict → result ≡ outs.Ended status.ReservationConflict None 0 → Reserves old new k k n o result
+  reserves_conflict old new k n o result standing blocks seats is told = (
+    λ w depicts holds buf.
+        ends_still k new w w (reserve_out w n o.action (acted LIMIT w.standing n o)) (out_of result buf)
+        (ap (λ (s : Standing). reserve_out w n o.action (acted LIMIT s n o)) (standing_in old w depicts) ∙ conflicting w n o.action (acted LIMIT (standing_of old.table) n o) is ∙ ap (λ (r : CommandOut). answer w (out_of r buf)) (sym told))
+        refl (same_depicts old new w standing blocks seats depicts) holds,
+    counts_still k result (λ buf. ap (λ (r : CommandOut). failures_by (out_of r buf)) told),
+  )
 
-pub reserves_bad : (old new : State) (n : Nexus) (o : ReserveOut) (c : Code) (result : CommandOut) → standing_of new.table ≡ standing_of old.table → new.blocks ≡ old.blocks → new.seats ≡ old.seats → (acted LIMIT (standing_of old.table) n o).verdict ≡ Bad c → ((buf : List ℕ) → out_of result buf ≡ checking c) → Reserves old new n o result
-reserves_bad old new n o c result standing blocks seats is out w depicts = (
-  w,
-  same_depicts old new w standing blocks seats depicts,
-  λ buf.
-      ap (λ (s : Standing). reserve_out w n o.action (acted LIMIT s n o)) (standing_in old w depicts) ∙ refused w n o.action (acted LIMIT (standing_of old.table) n o) c is ∙ ap (λ (x : Out). answer w x) (sym (out buf)),
-)
+  pub reserves_bad : (old new : State) (k : Keeper D gd) (n : Nexus) (o : ReserveOut) (c : Code) (result : CommandOut) → standing_of new.table ≡ standing_of old.table → new.blocks ≡ old.blocks → new.seats ≡ old.seats → (acted LIMIT (standing_of old.table) n o).verdict ≡ Bad c → ((buf : List ℕ) → out_of result buf ≡ checking c) → Reserves old new k k n o result
+  reserves_bad old new k n o c result standing blocks seats is out = (
+    λ w depicts holds buf.
+        ends_still k new w w (reserve_out w n o.action (acted LIMIT w.standing n o)) (out_of result buf)
+        (ap (λ (s : Standing). reserve_out w n o.action (acted LIMIT s n o)) (standing_in old w depicts) ∙ refused w n o.action (acted LIMIT (standing_of old.table) n o) c is ∙ ap (λ (x : Out). answer w x) (sym (out buf)))
+        refl (same_depicts old new w standing blocks seats depicts) holds,
+    counts_still k result (λ buf. ap failures_by (out buf) ∙ refusal_counts c (lit_five c ((acted_reaches LIMIT (standing_of old.table) n o).refusal c is))),
+  )
 
 tells_lists : (old new : State) (n : Nexus) (a : Acted) (k : List Nexus) → Tells (seat_of old.seats) (seat_of new.seats) n a → count_of new.seats ≡ count_of old.seats → Lists k old.seats → Lists k new.seats
 tells_lists old new n a k tells count lists = record { count = lists.count ∙ sym count; same = λ m. lists.same m ∙ sym (tells_some (seat_of old.seats) (seat_of new.seats) n a tells m) }
 
-pub reserves_good : (old new : State) (n : Nexus) (o : ReserveOut) (result : CommandOut) → standing_of new.table ≡ (acted LIMIT (standing_of old.table) n o).standing → new.blocks ≡ old.blocks
-    → (tells : Tells (seat_of old.seats) (seat_of new.seats) n (acted LIMIT (standing_of old.table) n o)) → tells.aborts ≡ (o.action == 5) → count_of new.seats ≡ count_of old.seats
-    → (acted LIMIT (standing_of old.table) n o).verdict ≡ Good → result ≡ outs.Ended status.Good None 0 → Reserves old new n o result
-reserves_good old new n o result standing blocks tells aborts count is told_it w depicts =
-    let a : Acted = acted LIMIT (standing_of old.table) n o in
-    let f : Nexus → Option Seat = seat_of old.seats in
-    let g : Nexus → Option Seat = seat_of new.seats in (
-      next w n o.action a,
-      record {
-        medium = depicts.medium;
-        blocks = depicts.blocks ∙ sym blocks;
-        known = depicts.known;
-        lists = tells_lists old new n a depicts.known tells count depicts.lists;
-        world =
-            ap (λ (x : World). next x n o.action a) depicts.world
-            ∙ ap (λ (s : Standing). record (world_with depicts.medium s f depicts.known) { attentions = told n a (λ k. attentions_in (f k)); task = marked o.action a.removed (λ k. task_in (f k)) }) (sym standing)
-            ∙ ap (λ (l : Nexus → List Code). record (world_with depicts.medium (standing_of new.table) f depicts.known) { attentions = l; task = marked o.action a.removed (λ k. task_in (f k)) }) (fun_ext (λ m. sym (attentions_told f g n a tells m)))
-            ∙ ap (λ (l : Nexus → Option ℕ). record (world_with depicts.medium (standing_of new.table) g depicts.known) { owner = l; task = marked o.action a.removed (λ k. task_in (f k)) }) (fun_ext (λ m. sym (tells_owner f g n a tells m)))
-            ∙ ap (λ (l : Nexus → Option Task). record (world_with depicts.medium (standing_of new.table) g depicts.known) { task = l }) (fun_ext (λ m. ap (λ (b : Bool). after_mark b a.removed m (task_in (f m))) (sym aborts) ∙ sym (tells_task f g n a tells m)));
-      },
-      λ buf. ap (λ (s : Standing). reserve_out w n o.action (acted LIMIT s n o)) (standing_in old w depicts) ∙ accepted w n o.action a is ∙ ap (λ (r : CommandOut). answer (next w n o.action a) (out_of r buf)) (sym told_it),
-    )
+-- what an act asks its save for, and where it leads
+module _ {D : Type 0} {gd : disks.Ghosts D} (before now : Keeper D gd) (old : State) (n : Nexus) (o : ReserveOut) where
+  -- a save of what the act keeps
+  abbrev pub SavesAct : {T E : Type 0} → Result T E → Type 0
+  SavesAct result = (w v : World) → Holds before w → kept v.standing ≡ kept (acted LIMIT (standing_of old.table) n o).standing → v.doubts ≡ [] → not (same_kept (kept (standing_of old.table)) (kept (acted LIMIT (standing_of old.table) n o).standing)) ≡ not (same_kept (kept w.standing) (kept v.standing)) → SavesTo before now w v result
+
+  saved_here : {T E : Type 0} (r : Result T E) (w : World) → SavesAct r → Depicts old w → Holds before w → SavesTo before now w (next w n o.action (acted LIMIT (standing_of old.table) n o)) r
+  saved_here r w saves depicts holds =
+      saves w (next w n o.action (acted LIMIT (standing_of old.table) n o)) holds refl refl
+      (ap (λ (s : Standing). not (same_kept (kept s) (kept (acted LIMIT (standing_of old.table) n o).standing))) (sym (standing_in old w depicts)))
+
+  answered_here : (w : World) → Depicts old w → (acted LIMIT (standing_of old.table) n o).verdict ≡ Good
+      → reserve_out w n o.action (acted LIMIT w.standing n o) ≡ answer (next w n o.action (acted LIMIT (standing_of old.table) n o)) (good [])
+  answered_here w depicts is = ap (λ (s : Standing). reserve_out w n o.action (acted LIMIT s n o)) (standing_in old w depicts) ∙ accepted w n o.action (acted LIMIT (standing_of old.table) n o) is
+
+  pub reserves_good : {T E : Type 0} (new : State) (r : Result T E) (x : T) (result : CommandOut) → standing_of new.table ≡ (acted LIMIT (standing_of old.table) n o).standing → new.blocks ≡ old.blocks
+      → (tells : Tells (seat_of old.seats) (seat_of new.seats) n (acted LIMIT (standing_of old.table) n o)) → tells.aborts ≡ (o.action == 5) → count_of new.seats ≡ count_of old.seats
+      → (acted LIMIT (standing_of old.table) n o).verdict ≡ Good → r ≡ Ok x → SavesAct r → Counts before now result → result ≡ outs.Ended status.Good None 0 → Reserves old new before now n o result
+  reserves_good {T} {E} new r x result standing blocks tells aborts count is done saves counts told_it = (
+    λ w depicts holds buf.
+        let a : Acted = acted LIMIT (standing_of old.table) n o in
+        let v : World = next w n o.action a in
+        let f : Nexus → Option Seat = seat_of old.seats in
+        let g : Nexus → Option Seat = seat_of new.seats in
+        ends_saved before now new w v (reserve_out w n o.action (acted LIMIT w.standing n o)) (out_of result buf) (answered_here w depicts is) (ap (λ (q : CommandOut). out_of q buf) told_it)
+        (record {
+          blocks = depicts.blocks ∙ sym blocks;
+          known = depicts.known;
+          lists = tells_lists old new n a depicts.known tells count depicts.lists;
+          world =
+              ap (λ (y : World). next y n o.action a) depicts.world
+              ∙ ap (λ (s : Standing). record (world_with v s f depicts.known) { attentions = told n a (λ k. attentions_in (f k)); task = marked o.action a.removed (λ k. task_in (f k)) }) (sym standing)
+              ∙ ap (λ (l : Nexus → List Code). record (world_with v (standing_of new.table) f depicts.known) { attentions = l; task = marked o.action a.removed (λ k. task_in (f k)) }) (fun_ext (λ m. sym (attentions_told f g n a tells m)))
+              ∙ ap (λ (l : Nexus → Option ℕ). record (world_with v (standing_of new.table) g depicts.known) { owner = l; task = marked o.action a.removed (λ k. task_in (f k)) }) (fun_ext (λ m. sym (tells_owner f g n a tells m)))
+              ∙ ap (λ (l : Nexus → Option Task). record (world_with v (standing_of new.table) g depicts.known) { task = l }) (fun_ext (λ m. ap (λ (b : Bool). after_mark b a.removed m (task_in (f m))) (sym aborts) ∙ sym (tells_task f g n a tells m)));
+        })
+        (subst (λ (q : Result T E). SavesTo before now w v q) done (saved_here r w saves depicts holds)),
+    counts,
+  )
+
+  pub reserves_unsaved : {T E : Type 0} (new : State) (r : Result T E) (e : E) (result : CommandOut) → standing_of new.table ≡ standing_of old.table → new.blocks ≡ old.blocks → new.seats ≡ old.seats
+      → (acted LIMIT (standing_of old.table) n o).verdict ≡ Good → r ≡ Err e → SavesAct r → Counts before now result → ((buf : List ℕ) → out_of result buf ≡ checking target_failure) → Reserves old new before now n o result
+  reserves_unsaved {T} {E} new r e result standing blocks seats is failed saves counts out = (
+    λ w depicts holds buf.
+        let v : World = next w n o.action (acted LIMIT (standing_of old.table) n o) in
+        let saved = subst (λ (q : Result T E). SavesTo before now w v q) failed (saved_here r w saves depicts holds) in
+        let d = same_depicts old new w standing blocks seats depicts in
+        ends_unsaved before now new w v (reserve_out w n o.action (acted LIMIT w.standing n o)) (out_of result buf) (answered_here w depicts is) (out buf)
+        (record { blocks = d.blocks; known = d.known; lists = d.lists; world = ap (λ (y : World). record y { doubts = w.doubts ++ kept v.standing ∷ [] }) d.world }) saved.0 saved.1,
+    counts,
+  )
 
 -- what the table did, at the target's limit
-pub does_here : (old : State) (n : Nexus) (request : OutRequest) (list : OutList) (result : Verdict) (now : Standing) (gone : List Pair)
-    → Does (acted (limit_of old.table) (standing_of old.table) n (table.requested request list)) result now gone
+pub does_here : (old : State) (spare : Table) (n : Nexus) (request : OutRequest) (list : OutList) (result : Verdict) (now : Standing) (gone : List Pair)
+    → limit_of spare ≡ LIMIT → standing_of spare ≡ standing_of old.table → Does (acted (limit_of spare) (standing_of spare) n (table.requested request list)) result now gone
     → Does (acted LIMIT (standing_of old.table) n (table.requested request list)) result now gone
-does_here old n request list result now gone does =
-    subst (λ (k : ℕ). Does (acted k (standing_of old.table) n (table.requested request list)) result now gone) old.limit does
+does_here old spare n request list result now gone limit standing does =
+    subst (λ (s : Standing). Does (acted LIMIT s n (table.requested request list)) result now gone) standing
+    (subst (λ (k : ℕ). Does (acted k (standing_of spare) n (table.requested request list)) result now gone) limit does)
 
 -- what the table did, in the core's words
 pub record Served (old : State) (n : Nexus) (o : ReserveOut) (standing : Standing) (gone : List Pair) : Type 0 where

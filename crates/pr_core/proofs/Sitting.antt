@@ -7,7 +7,7 @@ use Rattle.pr_words.specs.declared.code.Code.{Code}
 use Rattle.pr_words.specs.Orders.{same_nexus}
 use Rattle.pr_grammar.specs.Standings.{Standing}
 use Rattle.pr_model.specs.Attentions.{is_attention}
-use Rattle.pr_model.specs.Worlds.{Blocks, World, Task, set_at}
+use Rattle.pr_model.specs.Worlds.{World, Task, set_at}
 use Rattle.pr_grammar.specs.Operations.{is_unconditional}
 use Rattle.pr_model.specs.Commands.{attention_check, hand_out, no_sense}
 use Rattle.pr_model.proofs.Orders.{same_is}
@@ -20,10 +20,10 @@ use Rattle.pr_core.specs.Fitting.{AllFit}
 use Rattle.pr_core.specs.Admits.{PassesAttention, Senses}
 
 -- the world by its parts
-abbrev shape : Blocks → Standing → List Nexus → (Nexus → List Code) → (Nexus → Option ℕ) → (Nexus → Option Task) → World
-shape b s k a o t = record { medium = b; standing = s; known = k; attentions = a; owner = o; task = t; doubts = [] }
+abbrev shape : World → Standing → List Nexus → (Nexus → List Code) → (Nexus → Option ℕ) → (Nexus → Option Task) → World
+shape b s k a o t = record b { standing = s; known = k; attentions = a; owner = o; task = t }
 
-pub same_world : (b : Blocks) (s : Standing) (k : List Nexus) (f g : Nexus → Option Seat) → ((m : Nexus) → attentions_in (g m) ≡ attentions_in (f m)) → ((m : Nexus) → owner_in (g m) ≡ owner_in (f m))
+pub same_world : (b : World) (s : Standing) (k : List Nexus) (f g : Nexus → Option Seat) → ((m : Nexus) → attentions_in (g m) ≡ attentions_in (f m)) → ((m : Nexus) → owner_in (g m) ≡ owner_in (f m))
     → ((m : Nexus) → task_in (g m) ≡ task_in (f m)) → world_with b s f k ≡ world_with b s g k
 same_world b s k f g attentions owner task =
     ap (λ (a : Nexus → List Code). shape b s k a (λ m. owner_in (f m)) (λ m. task_in (f m))) (fun_ext (λ m. sym (attentions m)))
@@ -109,13 +109,12 @@ some_first c (d ∷ cs) is = cc
 pub shows_still : (old new : State) (n : Nexus) (w : World) → Takes old new n → attentions_in (seat_of old.seats n) ≡ [] → Depicts old w → Depicts new w
 shows_still old new n w takes quiet depicts =
     record {
-      medium = depicts.medium;
       blocks = depicts.blocks ∙ sym takes.blocks;
       known = depicts.known;
       lists = takes_lists old new n depicts.known takes depicts.lists;
       world =
-          depicts.world ∙ ap (λ (s : Standing). world_with depicts.medium s (seat_of old.seats) depicts.known) (sym takes.standing)
-          ∙ same_world depicts.medium (standing_of new.table) depicts.known (seat_of old.seats) (seat_of new.seats)
+          depicts.world ∙ ap (λ (s : Standing). world_with w s (seat_of old.seats) depicts.known) (sym takes.standing)
+          ∙ same_world w (standing_of new.table) depicts.known (seat_of old.seats) (seat_of new.seats)
           (λ m. ap attentions_in (seat_at (seat_of old.seats) (seat_of new.seats) n takes.seat m) ∙ quiet_kept (same_nexus m n) (seat_of old.seats m) (λ e. ap (λ (k : Nexus). attentions_in (seat_of old.seats k)) (same_is m n e) ∙ quiet))
           (λ m. takes_owner (seat_of old.seats) (seat_of new.seats) n takes.seat m)
           (λ m. takes_task (seat_of old.seats) (seat_of new.seats) n takes.seat m);
@@ -131,16 +130,15 @@ shows_less old new n w takes depicts =
     let attentions : (m : Nexus) → attentions_in (seat_of new.seats m) ≡ set_at (λ k. attentions_in (seat_of old.seats k)) n left m =
     λ m. ap (λ (f : Nexus → Option Seat). attentions_in (f m)) takes.seat ∙ attentions_set (seat_of old.seats) n m (option_map told_first (seat_of old.seats n)) ∙ ap (λ (cs : List Code). set_at (λ k. attentions_in (seat_of old.seats k)) n cs m) (taken_list (seat_of old.seats n) takes.known) in
     record {
-      medium = depicts.medium;
       blocks = depicts.blocks ∙ sym takes.blocks;
       known = depicts.known;
       lists = takes_lists old new n depicts.known takes depicts.lists;
       world =
           ap (λ (x : World). without x n left) depicts.world
-          ∙ ap (λ (s : Standing). shape depicts.medium s depicts.known (set_at (λ k. attentions_in (seat_of old.seats k)) n left) (λ m. owner_in (seat_of old.seats m)) (λ m. task_in (seat_of old.seats m))) (sym takes.standing)
-          ∙ ap (λ (a : Nexus → List Code). shape depicts.medium (standing_of new.table) depicts.known a (λ m. owner_in (seat_of old.seats m)) (λ m. task_in (seat_of old.seats m))) (fun_ext (λ m. sym (attentions m)))
-          ∙ ap (λ (o : Nexus → Option ℕ). shape depicts.medium (standing_of new.table) depicts.known (λ m. attentions_in (seat_of new.seats m)) o (λ m. task_in (seat_of old.seats m))) (fun_ext (λ m. sym (takes_owner (seat_of old.seats) (seat_of new.seats) n takes.seat m)))
-          ∙ ap (λ (t : Nexus → Option Task). shape depicts.medium (standing_of new.table) depicts.known (λ m. attentions_in (seat_of new.seats m)) (λ m. owner_in (seat_of new.seats m)) t) (fun_ext (λ m. sym (takes_task (seat_of old.seats) (seat_of new.seats) n takes.seat m)));
+          ∙ ap (λ (s : Standing). shape w s depicts.known (set_at (λ k. attentions_in (seat_of old.seats k)) n left) (λ m. owner_in (seat_of old.seats m)) (λ m. task_in (seat_of old.seats m))) (sym takes.standing)
+          ∙ ap (λ (a : Nexus → List Code). shape w (standing_of new.table) depicts.known a (λ m. owner_in (seat_of old.seats m)) (λ m. task_in (seat_of old.seats m))) (fun_ext (λ m. sym (attentions m)))
+          ∙ ap (λ (o : Nexus → Option ℕ). shape w (standing_of new.table) depicts.known (λ m. attentions_in (seat_of new.seats m)) o (λ m. task_in (seat_of old.seats m))) (fun_ext (λ m. sym (takes_owner (seat_of old.seats) (seat_of new.seats) n takes.seat m)))
+          ∙ ap (λ (t : Nexus → Option Task). shape w (standing_of new.table) depicts.known (λ m. attentions_in (seat_of new.seats m)) (λ m. owner_in (seat_of new.seats m)) t) (fun_ext (λ m. sym (takes_task (seat_of old.seats) (seat_of new.seats) n takes.seat m)));
     }
 
 attentions_of : (old : State) (n : Nexus) (w : World) → Depicts old w → w.attentions n ≡ attentions_in (seat_of old.seats n)
@@ -149,6 +147,9 @@ attentions_of old n w depicts = ap (λ (x : World). x.attentions n) depicts.worl
 pub low_key : (c : Code) → is_attention c ≡ true → c.key < 16
 low_key c is = grind (arith, nat_tests, is)
 
+pub high_key : (c : Code) → is_attention c ≡ true → 4 < c.key
+high_key c is = grind (arith, nat_tests, is)
+
 pub attention_passes : (old new : State) (n : Nexus) (op : ℕ) → Takes old new n → None ≡ slice_get (attentions_in (seat_of old.seats n)) 0 → PassesAttention old new n op (Ok tt)
 attention_passes old new n op takes none w depicts =
     let quiet : attentions_in (seat_of old.seats n) ≡ [] = none_first _ none in
@@ -156,10 +157,11 @@ attention_passes old new n op takes none w depicts =
 
 pub attention_reported : (old new : State) (n : Nexus) (op : ℕ) (c : Code) → Takes old new n → is_unconditional op ≡ false → Some c ≡ slice_get (attentions_in (seat_of old.seats n)) 0 → is_attention c ≡ true → PassesAttention old new n op (Err c)
 attention_reported old new n op c takes looks first is = (
-  low_key c is,
+  (high_key c is, low_key c is),
   λ w depicts. (
     without w n (drop 1 (attentions_in (seat_of old.seats n))),
     shows_less old new n w takes depicts,
+    refl,
     ap (attention_check w n op) (attentions_of old n w depicts ∙ some_first c _ first) ∙ (rw looks refl),
   ),
 )
@@ -180,6 +182,7 @@ senses old new n lun None c takes here first known is =
       λ w depicts. (
         w,
         shows_still old new n w takes quiet depicts,
+        refl,
         λ descriptor allocation.
             rw (here, is) (ap (hand_out w n descriptor allocation) (attentions_of old n w depicts ∙ quiet)),
       ),
@@ -189,6 +192,7 @@ senses old new n lun (Some a) c takes here first known is = (
   λ w depicts. (
     without w n (drop 1 (attentions_in (seat_of old.seats n))),
     shows_less old new n w takes depicts,
+    refl,
     λ descriptor allocation.
         rw (here, is) (ap (hand_out w n descriptor allocation) (attentions_of old n w depicts ∙ some_first a _ first)),
   ),

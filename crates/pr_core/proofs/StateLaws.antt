@@ -10,7 +10,7 @@ use Rattle.pr_words.specs.declared.code.Code.{Code}
 use Rattle.pr_words.specs.Orders.{same_nexus}
 use Rattle.pr_grammar.specs.Standings.{Standing}
 use Rattle.pr_model.specs.Limits.{KNOWN}
-use Rattle.pr_model.specs.Worlds.{Blocks, World, Task, set_at, is_known}
+use Rattle.pr_model.specs.Worlds.{World, Task, set_at, is_known}
 use Rattle.pr_model.specs.Histories as moves
 use Rattle.pr_model.specs.Histories.{with_known, is_port, login_code}
 use Rattle.pr_model.proofs.Orders.{same_is}
@@ -20,7 +20,7 @@ use Rattle.pr_core.specs.declared.seats.Seats.{Seats}
 use Rattle.pr_core.specs.declared.state.State.{State}
 use Rattle.pr_core.specs.Seats.{seat_of, count_of, attentions_in, owner_in, task_in, logged_in, logged_out, Lists}
 use Rattle.pr_core.specs.States.{Depicts, owner_at, progress_in}
-use Rattle.pr_core.specs.Fitting.{Fits, AllFit}
+use Rattle.pr_core.specs.Fitting.{Fits, AllFit, HavePorts}
 use Rattle.pr_core.proofs.SeatLaws.{same_self}
 
 -- the seat of one nexus is changed
@@ -100,14 +100,14 @@ login_lists known old new n s seat count lists =
 
 -- the worlds
 
-abbrev world_of : Blocks → Standing → List Nexus → (Nexus → List Code) → (Nexus → Option ℕ) → (Nexus → Option Task) → World
-world_of medium standing known attentions owner task =
-    record { medium = medium; standing = standing; known = known; attentions = attentions; owner = owner; task = task; doubts = [] }
+abbrev world_of : World → Standing → List Nexus → (Nexus → List Code) → (Nexus → Option ℕ) → (Nexus → Option Task) → World
+world_of w standing known attentions owner task =
+    record w { standing = standing; known = known; attentions = attentions; owner = owner; task = task }
 
-same_world : (medium : Blocks) (standing : Standing) (known : List Nexus) (a b : Nexus → List Code) (p q : Nexus → Option ℕ) (t u : Nexus → Option Task) → a ≡ b → p ≡ q → t ≡ u
-    → world_of medium standing known a p t ≡ world_of medium standing known b q u
-same_world medium standing known a b p q t u e f g =
-    ap (λ x. world_of medium standing known x p t) e ∙ ap (λ x. world_of medium standing known b x t) f ∙ ap (world_of medium standing known b q) g
+same_world : (w : World) (standing : Standing) (known : List Nexus) (a b : Nexus → List Code) (p q : Nexus → Option ℕ) (t u : Nexus → Option Task) → a ≡ b → p ≡ q → t ≡ u
+    → world_of w standing known a p t ≡ world_of w standing known b q u
+same_world w standing known a b p q t u e f g =
+    ap (λ x. world_of w standing known x p t) e ∙ ap (λ x. world_of w standing known b x t) f ∙ ap (world_of w standing known b q) g
 
 pub owner_now : (who : ℕ) (n : Nexus) (o : Option Seat) → owner_in (Some (logged_in who n o)) ≡ Some who
 owner_now who n None = refl
@@ -126,13 +126,12 @@ login_depicts old new who n table blocks seat count w depicts =
     let before = seat_of old.seats in
     let s = logged_in who n (before n) in
     record {
-      medium = depicts.medium;
       blocks = depicts.blocks ∙ sym blocks;
       known = with_known depicts.known n;
       lists = login_lists depicts.known old.seats new.seats n s seat count depicts.lists;
       world =
           ap (λ v. moves.logged_in v who n) depicts.world
-          ∙ rw (table, seat) (sym (same_world depicts.medium (standing_of old.table) (with_known depicts.known n) _ _ _ _ _ _
+          ∙ rw (table, seat) (sym (same_world w (standing_of old.table) (with_known depicts.known n) _ _ _ _ _ _
           (fun_ext (seen_same attentions_in before n (Some s) (attentions_now who n (before n))))
           (seen_changed owner_in before n (Some s) (Some who) (owner_now who n (before n)))
           (fun_ext (seen_same task_in before n (Some s) (task_now who n (before n))))));
@@ -155,13 +154,12 @@ logout_depicts old new n table blocks seat count w depicts =
     let before = seat_of old.seats in
     let o = option_map logged_out (before n) in
     record {
-      medium = depicts.medium;
       blocks = depicts.blocks ∙ sym blocks;
       known = depicts.known;
       lists = record { count = depicts.lists.count ∙ sym count; same = λ m. depicts.lists.same m ∙ sym (rw seat (seated_same logged_out before n m)) };
       world =
           ap (λ v. moves.logged_out v n) depicts.world
-          ∙ rw (table, seat) (sym (same_world depicts.medium (standing_of old.table) depicts.known _ _ _ _ _ _
+          ∙ rw (table, seat) (sym (same_world w (standing_of old.table) depicts.known _ _ _ _ _ _
           (fun_ext (seen_same attentions_in before n o (still_waiting (before n))))
           (seen_changed owner_in before n o None (nobody_now (before n)))
           (seen_changed task_in before n o None (idle_now (before n)))));
@@ -169,7 +167,7 @@ logout_depicts old new n table blocks seat count w depicts =
 
 -- a login that none of the refusals concerns
 
-port_by : (port : ℕ) → (port ≡ 0 → ⊥) → port ≤ 16 → is_port port ≡ true
+pub port_by : (port : ℕ) → (port ≡ 0 → ⊥) → port ≤ 16 → is_port port ≡ true
 port_by port some le = grind (arith, nat_tests)
 
 not_full : (known full : Bool) → (known ≡ true) ⊎ (full ≡ false) → (not known && full) ≡ false
@@ -210,3 +208,14 @@ others_go_on seat n o other m not_here e = by (same_nexus m n) refl
 
 pub elsewhere : (seat : Nexus → Option Seat) (n : Nexus) (o : Option Seat) (m : Nexus) → same_nexus m n ≡ false → set_at seat n o m ≡ seat m
 elsewhere seat n o m other = rw other refl
+
+-- a nexus that is known has a port, also where another one is known with its own
+pub set_ports : (seat : Nexus → Option Seat) (n : Nexus) (o : Option Seat) → HavePorts seat → is_port n.port ≡ true → HavePorts (set_at seat n o)
+set_ports seat n o ports here m = by (same_nexus m n) refl
+  where
+    by : (b : Bool) → same_nexus m n ≡ b → is_some (cond b o (seat m)) ≡ true → is_port m.port ≡ true
+    by true e is = ap (λ (k : Nexus). is_port k.port) (same_is m n e) ∙ here
+    by false e is = ports m is
+
+pub same_ports : (f g : Nexus → Option Seat) → ((m : Nexus) → is_some (g m) ≡ is_some (f m)) → HavePorts f → HavePorts g
+same_ports f g same ports m is = ports m (sym (same m) ∙ is)

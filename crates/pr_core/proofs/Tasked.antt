@@ -52,9 +52,9 @@ pub retasked : (old new : State) (n : Nexus) (t : Option Task) (m : Blocks) (w :
 retasked old new n t m w r depicts same =
     let f : Nexus → Option Seat = seat_of old.seats in
     let g : Nexus → Option Seat = seat_of new.seats in
+    let v : World = record w { medium = m } in
     record {
-      medium = m;
-      blocks = same ∙ ap (λ (x : World). x.medium.count) depicts.world ∙ depicts.blocks ∙ sym r.blocks;
+      blocks = same ∙ depicts.blocks ∙ sym r.blocks;
       known = depicts.known;
       lists = record {
         count = depicts.lists.count ∙ sym r.count;
@@ -62,10 +62,10 @@ retasked old new n t m w r depicts same =
       };
       world =
           ap (λ (x : World). record x { medium = m; task = set_at x.task n t }) depicts.world
-          ∙ ap (λ (s : Standing). record (world_with m s f depicts.known) { task = set_at (λ k. task_in (f k)) n t }) (sym r.standing)
-          ∙ ap (λ (a : Nexus → List Code). record (world_with m (standing_of new.table) f depicts.known) { attentions = a; task = set_at (λ k. task_in (f k)) n t }) (fun_ext (λ k. sym (set_attentions f g n t r.seat k)))
-          ∙ ap (λ (o : Nexus → Option ℕ). record (world_with m (standing_of new.table) g depicts.known) { owner = o; task = set_at (λ k. task_in (f k)) n t }) (fun_ext (λ k. sym (set_owner f g n t r.seat k)))
-          ∙ ap (λ (u : Nexus → Option Task). record (world_with m (standing_of new.table) g depicts.known) { task = u }) (fun_ext (λ k. sym (set_task f g n t r.known r.seat k)));
+          ∙ ap (λ (s : Standing). record (world_with v s f depicts.known) { task = set_at (λ k. task_in (f k)) n t }) (sym r.standing)
+          ∙ ap (λ (a : Nexus → List Code). record (world_with v (standing_of new.table) f depicts.known) { attentions = a; task = set_at (λ k. task_in (f k)) n t }) (fun_ext (λ k. sym (set_attentions f g n t r.seat k)))
+          ∙ ap (λ (o : Nexus → Option ℕ). record (world_with v (standing_of new.table) g depicts.known) { owner = o; task = set_at (λ k. task_in (f k)) n t }) (fun_ext (λ k. sym (set_owner f g n t r.seat k)))
+          ∙ ap (λ (u : Nexus → Option Task). record (world_with v (standing_of new.table) g depicts.known) { task = u }) (fun_ext (λ k. sym (set_task f g n t r.known r.seat k)));
     }
 
 pub retasked_is : (old new : State) (n : Nexus) (t : Option Task) (m : Blocks) (w v : World) → Retasks old new n t → Depicts old w → m.count ≡ w.medium.count → v ≡ record w { medium = m; task = set_at w.task n t } → Depicts new v

@@ -7,5 +7,7 @@ pub mod Feeding
 pub mod States
 pub mod Outs
 pub mod Passing
+pub mod Counting
+pub mod Saves
 pub mod Admits
 pub mod View

@@ -28,16 +28,20 @@ Pass checks = (last : Answer) → first_or checks last ≡ last
 abbrev pub Give : List (Option Answer) → Answer → Type 0
 Give checks a = (last : Answer) → first_or checks last ≡ a
 
--- CHECK CONDITION with a code whose sense key has four bits; the world stays
+-- the code of a refusal: its sense key has four bits, and isn't HARDWARE ERROR, which is that of a save that failed (SPC-4, sense keys)
+abbrev pub IsRefusal : Code → Type 0
+IsRefusal c = (4 < c.key) × (c.key < 16)
+
+-- CHECK CONDITION with the code of a refusal; the world stays
 abbrev pub Refuse : (World → List (Option Answer)) → Code → Type 0
-Refuse checks c = (c.key < 16) × ((w : World) → Give (checks w) (answer w (checking c)))
+Refuse checks c = IsRefusal c × ((w : World) → Give (checks w) (answer w (checking c)))
 
 -- the same over a medium of so many blocks
 abbrev pub PassOver : ℕ → (World → List (Option Answer)) → Type 0
 PassOver blocks checks = (w : World) → w.medium.count ≡ blocks → Pass (checks w)
 
 abbrev pub RefuseOver : ℕ → (World → List (Option Answer)) → Code → Type 0
-RefuseOver blocks checks c = (c.key < 16) × ((w : World) → w.medium.count ≡ blocks → Give (checks w) (answer w (checking c)))
+RefuseOver blocks checks c = IsRefusal c × ((w : World) → w.medium.count ≡ blocks → Give (checks w) (answer w (checking c)))
 
 abbrev pub PassesOperation : Option OperationCode → Result OperationCode Code → Type 0
 PassesOperation operation (Ok o) = (operation ≡ Some o) × ((op : ℕ) (w : World) → operation ≡ operation_at op → Pass (operation_checks w op))
@@ -49,12 +53,12 @@ PassesForm o cdb (Err c) = Refuse (λ w. form_checks w (operation_code cdb) cdb)
 
 abbrev pub PassesLength : ℕ → List ℕ → Result (Unit {0}) Code → Type 0
 PassesLength size sent (Ok done) = (w : World) → length_check w size sent ≡ None
-PassesLength size sent (Err c) = (c.key < 16) × ((w : World) → length_check w size sent ≡ Some (answer w (checking c)))
+PassesLength size sent (Err c) = IsRefusal c × ((w : World) → length_check w size sent ≡ Some (answer w (checking c)))
 
 -- the check of the length of a command without data-out, which is admitted so
 abbrev pub PassesNoData : Admitted → List ℕ → Result Admitted Code → Type 0
 PassesNoData a sent (Ok b) = (b ≡ a) × ((w : World) → length_check w 0 sent ≡ None)
-PassesNoData a sent (Err c) = (c.key < 16) × ((w : World) → length_check w 0 sent ≡ Some (answer w (checking c)))
+PassesNoData a sent (Err c) = IsRefusal c × ((w : World) → length_check w 0 sent ≡ Some (answer w (checking c)))
 
 -- a READ or WRITE begins this task
 abbrev pub Transfers : Command → Task → Type 0

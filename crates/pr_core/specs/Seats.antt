@@ -30,6 +30,10 @@ abbrev pub task_in : Option Seat → Option Task
 task_in None = None
 task_in (Some s) = s.task
 
+-- the seat of a nexus that the power-up made known
+abbrev pub new_seat : Nexus → Seat
+new_seat n = record { nexus = n; owner = None; attentions = powered_on ∷ []; task = None }
+
 -- the seat after a login, a logout, and where its first attention was taken
 
 abbrev pub logged_in : ℕ → Nexus → Option Seat → Seat

@@ -1,48 +1,34 @@
 -- The worlds for which the core's state stands.
-use Rattle.std.specs.Prelude.{◌≡◌, ℕ, false, [], List, Option, Some, None}
+use Rattle.std.specs.Prelude.{◌≡◌, ℕ, false, List, Option, Some, None}
 use Rattle.pr_words.specs.declared.nexus.Nexus.{Nexus}
 use Rattle.pr_words.specs.declared.task.Way.{Way}
 use Rattle.pr_words.specs.Orders.{same_nexus}
 use Rattle.pr_grammar.specs.Standings.{Standing}
-use Rattle.pr_model.specs.Limits.{LIMIT}
-use Rattle.pr_model.specs.Keeping.{Nothing}
-use Rattle.pr_model.specs.Worlds.{Blocks, World, Task, restored}
+use Rattle.pr_model.specs.Worlds.{World, Task}
 use Rattle.pr_model.specs.Entries.{Entry}
 use Rattle.pr_model.specs.Histories.{MayFollow, AreBlocksOf, moved}
-use Rattle.pr_table.specs.declared.table.Table.{Table}
-use Rattle.pr_table.specs.Tables.{standing_of, limit_of}
+use Rattle.pr_table.specs.Tables.{standing_of}
 use Rattle.pr_core.specs.declared.seats.Seat.{Seat}
-use Rattle.pr_core.specs.declared.seats.Seats.{Seats}
 use Rattle.pr_core.specs.declared.state.State.{State}
-use Rattle.pr_core.specs.Seats.{seat_of, count_of, attentions_in, owner_in, task_in, Lists}
+use Rattle.pr_core.specs.Seats.{seat_of, attentions_in, owner_in, task_in, Lists}
 
--- nobody is known in them and nothing is registered
-pub record AreBare (t : Table) (s : Seats) : Type 0 where
-  pub limit : limit_of t ≡ LIMIT
-  pub standing : standing_of t ≡ restored Nothing
-  pub seats : seat_of s ≡ (λ n. None)
-  pub count : count_of s ≡ 0
-
--- the world of this medium, these registrations and these seats, whose nexuses became known in this order
-abbrev pub world_with : Blocks → Standing → (Nexus → Option Seat) → List Nexus → World
-world_with medium standing seat known =
-    record {
-      medium = medium;
+-- a world like this one, with these registrations and these seats, whose nexuses became known in this order
+abbrev pub world_with : World → Standing → (Nexus → Option Seat) → List Nexus → World
+world_with w standing seat known =
+    record w {
       standing = standing;
       known = known;
       attentions = λ n. attentions_in (seat n);
       owner = λ n. owner_in (seat n);
       task = λ n. task_in (seat n);
-      doubts = [];
     }
 
--- the state has the registrations and the nexuses of the world, over any medium of its number of blocks; it keeps no order among the known nexuses
+-- the state has the registrations and the nexuses of the world, over any medium of its number of blocks, and whatever is in doubt; it keeps no order among the known nexuses
 pub record Depicts (s : State) (w : World) : Type 0 where
-  pub medium : Blocks
-  pub blocks : medium.count ≡ s.blocks
+  pub blocks : w.medium.count ≡ s.blocks
   pub known : List Nexus
   pub lists : Lists known s.seats
-  pub world : w ≡ world_with medium (standing_of s.table) (seat_of s.seats) known
+  pub world : w ≡ world_with w (standing_of s.table) (seat_of s.seats) known
 
 -- each world for which it stood may be followed by the entry, and leads to one for which it stands now
 abbrev pub Enters : State → State → Entry → Type 0

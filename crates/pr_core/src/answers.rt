@@ -56,10 +56,3 @@ impl CommandOut {
         }
     }
 }
-
-/// Why a core couldn't be opened.
-#[derive(Clone, Copy, Debug, PartialEq, Eq)]
-pub enum OpenFault {
-    /// There was no memory for what it needs.
-    OutOfMemory,
-}

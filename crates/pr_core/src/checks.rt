@@ -257,7 +257,7 @@ fn check_reserve_out(
     let Ok(list) = read_out_list(sent) else {
         return Err(Code::PARAMETER_LIST_LENGTH_ERROR);
     };
-    if list_is_bad(service, &list) || list.aptpl {
+    if list_is_bad(service, &list) {
         return Err(Code::INVALID_FIELD_IN_PARAMETER_LIST);
     }
     Ok(Admitted::ReserveOut { request, list })

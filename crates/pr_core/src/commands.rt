@@ -1,38 +1,71 @@
 //! Commands: their checks, and what those do that pass.
 
-ghost use Rattle.std.specs.Prelude.{◌≡◌, ◌<◌, ◌≤◌, ℕ, List, Some, None, is_some, true, length, take, IfOk};
+ghost use Rattle.std.specs.Prelude.{◌≡◌, ◌<◌, ◌≤◌, ℕ, List, [], Some, None, is_some, true, not, length, take, IfOk};
+ghost use Rattle.pr_io.specs.Causes.{HasCause};
 ghost use Rattle.pr_words.specs.Services.{in_service_code};
 ghost use Rattle.pr_grammar.specs.Operations.{operation_at, class_of};
 ghost use Rattle.pr_model.specs.Conflicts.{is_forbidden, role_of};
 ghost use Rattle.pr_model.specs.Tasks.{new_task};
+ghost use Rattle.pr_model.specs.Keeping.{kept, same_kept};
+ghost use Rattle.pr_model.specs.Registrants.{IsWellFormed};
+ghost use Rattle.pr_model.specs.Worlds.{World};
 ghost use Rattle.pr_model.specs.Commands.{reserve_in_data};
 ghost use Rattle.pr_model.specs.Entries.{entry, Command as Commands};
 ghost use Rattle.pr_table.specs.Tables.{standing_of};
 ghost use Rattle.pr_table.specs.Told.{requested};
+ghost use Rattle.pr_aptpl.specs.Doubts.{HavePorts};
+ghost use Rattle.pr_aptpl.specs.Keepers.{disk_of};
 ghost use Rattle.pr_core.specs.Seats.{seat_of};
 ghost use Rattle.pr_core.specs.Outs.{out_of, IsProper, IsEnded, IsFed, Begins, LeavesData};
 ghost use Rattle.pr_core.specs.Fitting.{Fits};
 ghost use Rattle.pr_core.specs.Passing.{FitsIn, IsBegun};
-ghost use Rattle.pr_core.specs.Admits.{PassesAttention, PassesUnit, Serves, Senses, Reserves};
+ghost use Rattle.pr_core.specs.Saves.{Holds, SavesTo};
+ghost use Rattle.pr_core.specs.Admits.{PassesAttention, PassesUnit, Serves, ServesStill, Senses, Reserves, Passed};
 
 use crate::admitted::Admitted;
 use crate::answers::CommandOut;
 use crate::checks::{check_cdb, check_operation, is_elsewhere};
 use crate::replies::{write_capacity10, write_capacity16, write_inquiry, write_luns, write_sense};
 use crate::state::State;
+use pr_aptpl::Keeper;
 use pr_cdb::{OperationCode, class, is_unconditional, operation};
+use pr_io::{Disk, Failed};
 use pr_param::{Registrants, write_capabilities, write_full, write_keys, write_reservation};
 use pr_rules::allows;
-use pr_table::{OutList, OutRequest, Verdict};
+use pr_table::{OutList, OutRequest, Table, Verdict};
 use pr_tasks::Task;
 use pr_words::{Code, InService, Nexus, Role};
 
+/// Saves what a table keeps, where that has changed or something is in doubt.
+///
+/// # Errors
+///
+/// Where the disk has failed.
+fn save<D: Disk>(keeper: &mut Keeper<D>, table: &Table, keeps: bool) -> Result<(), Failed>
+    requires formed { IsWellFormed 64 (standing_of table.now) }
+    requires ports { HavePorts (standing_of table.now).pairs }
+    ensures saves { (w v : World) → Holds keeper.old w
+        → kept v.standing ≡ kept (standing_of table.now) → v.doubts ≡ []
+        → keeps ≡ not (same_kept (kept w.standing) (kept v.standing))
+        → SavesTo keeper.old keeper.new w v result }
+    ensures reference { D.reference (disk_of keeper.new) ≡ D.reference (disk_of keeper.old) }
+    ensures cause { HasCause (D.faults (disk_of keeper.old)) (D.faults (disk_of keeper.new))
+        result }
+{
+    if !keeps && !keeper.in_doubt() {
+        return Ok(());
+    }
+    keeper.save(table)
+}
+
 impl State {
-    ghost use Rattle.pr_core.specs.States.{Enters, owner_at, progress_at, TasksStay};
+    ghost use Rattle.pr_core.specs.States.{owner_at, progress_at, TasksStay};
+    ghost use Rattle.pr_core.specs.Saves.{EntersSaving, Counts};
 
     /// A command of a nexus, with its data-out in the first bytes of the buffer.
-    pub fn command(
+    pub fn command<D: Disk>(
         &mut self,
+        keeper: &mut Keeper<D>,
         nexus: Nexus,
         lun: u16,
         cdb: &[u8],
@@ -46,8 +79,9 @@ impl State {
         requires room { 524288 ≤ length buf.old }
         requires sent { out_len ≤ length buf.old }
         ensures enters { (who : ℕ) → owner_at self.old nexus ≡ Some who
-            → Enters self.old self.new (entry who nexus
+            → EntersSaving self.old self.new keeper.old keeper.new (entry who nexus
             (Commands lun cdb.now (take out_len buf.old)) (out_of result buf.new)) }
+        ensures counts { Counts keeper.old keeper.new result }
         ensures owner { owner_at self.new ≡ owner_at self.old }
         ensures begins { Begins result (progress_at self.new nexus) }
         ensures fed { IsFed result out_len }
@@ -64,7 +98,7 @@ impl State {
             return CommandOut::conflict();
         }
         match check_cdb(operation, cdb, &buf[..out_len], self.blocks) {
-            Ok(admitted) => self.serve(nexus, lun, admitted, buf),
+            Ok(admitted) => self.serve(keeper, nexus, lun, admitted, buf),
             Err(code) => CommandOut::checking(code),
         }
     }
@@ -134,13 +168,21 @@ impl State {
     }
 
     /// A command that no check refuses. Its data-in goes to the front of the buffer.
-    fn serve(&mut self, nexus: Nexus, lun: u16, admitted: Admitted, buf: &mut [u8]) -> CommandOut
+    fn serve<D: Disk>(
+        &mut self,
+        keeper: &mut Keeper<D>,
+        nexus: Nexus,
+        lun: u16,
+        admitted: Admitted,
+        buf: &mut [u8],
+    ) -> CommandOut
         requires known { is_some (seat_of self.old.seats nexus) ≡ true }
         requires owned { is_some (owner_at self.old nexus) ≡ true }
         requires idle { progress_at self.old nexus ≡ None }
         requires fits { FitsIn self.old.blocks admitted }
         requires room { 524288 ≤ length buf.old }
-        ensures serves { Serves self.old self.new nexus lun admitted result buf.new }
+        ensures serves { Serves self.old self.new keeper.old keeper.new nexus lun admitted result
+            buf.new }
         ensures begun { IsBegun admitted result }
         ensures owner { owner_at self.new ≡ owner_at self.old }
         ensures begins { Begins result (progress_at self.new nexus) }
@@ -175,7 +217,9 @@ impl State {
                 service,
                 allocation,
             } => CommandOut::good(self.write_reply(service, allocation, buf)),
-            Admitted::ReserveOut { request, list } => self.reserve_out(nexus, &request, &list),
+            Admitted::ReserveOut { request, list } => {
+                self.reserve_out(keeper, nexus, &request, &list)
+            }
         }
     }
 
@@ -186,8 +230,9 @@ impl State {
         requires idle { progress_at self.old nexus ≡ None }
         requires fits { Fits self.old.blocks task }
         requires fresh { task ≡ new_task task.way task.lba task.count }
-        ensures serves { (lun : ℕ) (buf : List ℕ) → Serves self.old self.new nexus lun
+        ensures serves { (lun : ℕ) (buf : List ℕ) → ServesStill self.old self.new nexus lun
             (Admitted.Transfer task) result buf }
+        ensures passed { Passed result }
         ensures begun { IsBegun (Admitted.Transfer task) result }
         ensures owner { owner_at self.new ≡ owner_at self.old }
         ensures begins { Begins result (progress_at self.new nexus) }
@@ -234,10 +279,17 @@ impl State {
         }
     }
 
-    /// A PERSISTENT RESERVE OUT with its parameter list.
-    fn reserve_out(&mut self, nexus: Nexus, request: &OutRequest, list: &OutList) -> CommandOut
+    /// A PERSISTENT RESERVE OUT with its parameter list. It acts on the spare table; where it is
+    /// accepted and changes what is kept, that is saved before the table is taken over.
+    fn reserve_out<D: Disk>(
+        &mut self,
+        keeper: &mut Keeper<D>,
+        nexus: Nexus,
+        request: &OutRequest,
+        list: &OutList,
+    ) -> CommandOut
         requires known { is_some (seat_of self.old.seats nexus) ≡ true }
-        ensures reserves { Reserves self.old self.new nexus
+        ensures reserves { Reserves self.old self.new keeper.old keeper.new nexus
             (requested request.now list.now) result }
         ensures owner { owner_at self.new ≡ owner_at self.old }
         ensures progress { progress_at self.new ≡ progress_at self.old }
@@ -245,12 +297,17 @@ impl State {
         ensures ended { IsEnded result }
         ensures proper { IsProper result }
     {
-        match self.table.serve(nexus, request, list) {
-            Verdict::Good(change) => {
-                self.seats.tell(nexus, &self.table, &change);
-                self.seats.mark(&self.table, &change);
-                CommandOut::good(0)
-            }
+        self.spare.copy_from(&self.table);
+        match self.spare.serve(nexus, request, list) {
+            Verdict::Good(change) => match save(keeper, &self.spare, change.keeps) {
+                Ok(()) => {
+                    self.table.copy_from(&self.spare);
+                    self.seats.tell(nexus, &self.spare, &change);
+                    self.seats.mark(&self.spare, &change);
+                    CommandOut::good(0)
+                }
+                Err(_) => CommandOut::checking(Code::INTERNAL_TARGET_FAILURE),
+            },
             Verdict::Conflict => CommandOut::conflict(),
             Verdict::Bad(code) => CommandOut::checking(code),
         }

@@ -10,6 +10,7 @@ mod seats;
 mod state;
 mod target;
 
-pub use answers::{CommandOut, OpenFault};
+pub use answers::CommandOut;
+pub use pr_aptpl::OpenFault;
 pub use pr_tasks::StepOut;
-pub use target::{Core, Opening, Room};
+pub use target::{Core, Opening};

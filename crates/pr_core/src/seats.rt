@@ -1,4 +1,4 @@
-ghost use Rattle.std.specs.Prelude.{◌≡◌, ◌⊎◌, ◌+◌, ◌<◌, ◌≤◌, true, not, nat_lt, Some, None, is_some, IfOk, IfSome, option_map, map, slice_get, vec_len, vec_capacity, if◌then◌else◌};
+ghost use Rattle.std.specs.Prelude.{◌≡◌, ◌⊎◌, ◌+◌, ◌<◌, ◌≤◌, true, not, nat_lt, Some, None, is_some, IfOk, IfSome, option_map, map, slice_get, length, vec_len, vec_capacity, if◌then◌else◌};
 ghost use Rattle.pr_words.specs.declared.nexus.Nexus.{Nexus};
 ghost use Rattle.pr_model.specs.Limits.{KNOWN};
 ghost use Rattle.pr_model.specs.Worlds.{set_at};
@@ -9,6 +9,7 @@ ghost use Rattle.pr_core.specs.Telling.{told_seat, marked_seat};
 ghost use Rattle.pr_core.specs.Stepping.{Did, HasWithin, Keeps, is_moving, task_after, with_task};
 
 use pr_io::Medium;
+use pr_param::Registrants;
 use pr_rules::Attentions;
 use pr_table::{Change, Table};
 use pr_tasks::{StepOut, Task};
@@ -30,7 +31,7 @@ pub struct Seat {
     pub task: Option<Task>,
 }
 
-/// The known nexuses, in their order. The memory of all is taken by `new`.
+/// The known nexuses, in their order. The memory of all is taken by `known`.
 #[derive(Drop)]
 pub struct Seats {
     items: Vec<Seat>,
@@ -40,15 +41,35 @@ pub struct Seats {
 }
 
 impl Seats {
-    ghost use Rattle.pr_core.specs.Seats.{seat_of, count_of, owner_in, attentions_in, task_in, logged_in, logged_out, told_first};
+    ghost use Rattle.pr_core.specs.Seats.{seat_of, count_of, owner_in, attentions_in, task_in, logged_in, logged_out, told_first, new_seat};
+    ghost use Rattle.pr_grammar.specs.Standings.{is_registered};
 
-    /// Nobody is known.
-    pub fn new(alloc: Global) -> Result<Seats, AllocError>
-        ensures { IfOk result (λ s. (seat_of s ≡ (λ n. None)) × (count_of s ≡ 0)) }
+    /// Those of the registered nexuses, none of whom is logged in.
+    pub fn known(alloc: Global, table: &Table) -> Result<Seats, AllocError>
+        requires { length (standing_of table.now).pairs ≤ KNOWN }
+        ensures seat { IfOk result (λ s. seat_of s ≡ (λ n.
+            if is_registered (standing_of table.now).pairs n then Some (new_seat n) else None)) }
+        ensures count { IfOk result (λ s. count_of s ≡ length (standing_of table.now).pairs) }
     {
         Ok(Seats {
-            items: Vec::with_capacity(alloc, MOST)?,
+            items: Seats::new_seats(alloc, table)?,
         })
+    }
+
+    /// A seat for each registered nexus, with room for all that can be known.
+    fn new_seats(alloc: Global, table: &Table) -> Result<Vec<Seat>, AllocError>
+        requires { length (standing_of table.now).pairs ≤ KNOWN }
+        ensures seats { IfOk result (λ s. s.items ≡ map (λ p. new_seat p.nexus)
+            (standing_of table.now).pairs) }
+        ensures order { IfOk result (λ s. IsAscending s.items) }
+        ensures room { IfOk result (λ s. KNOWN ≤ vec_capacity s) }
+    {
+        let mut seats = Vec::with_capacity(alloc, MOST)?;
+        while seats.len() < table.count() {
+            let (nexus, _) = table.at(seats.len());
+            seats.push(Seat::new(nexus))?;
+        }
+        Ok(seats)
     }
 
     /// The place of the seat of a nexus, or else the place where it would stand.
@@ -256,6 +277,20 @@ fn goes_on(out: StepOut) -> bool
 }
 
 impl Seat {
+    ghost use Rattle.pr_core.specs.Seats.{new_seat};
+
+    /// That of a nexus that the power-up made known.
+    fn new(nexus: Nexus) -> Seat
+        ensures { result ≡ new_seat nexus }
+    {
+        Seat {
+            nexus,
+            owner: None,
+            attentions: Attentions::fresh(),
+            task: None,
+        }
+    }
+
     /// Marks its task, where its nexus was removed and tasks are aborted.
     fn mark(&mut self, table: &Table, change: &Change)
         ensures { self.new ≡ marked_seat change.now.abort (removed_of table.now) self.old }

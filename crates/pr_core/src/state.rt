@@ -1,32 +1,44 @@
-ghost use Rattle.std.specs.Prelude.{◌≡◌, ◌≤◌, ◌^◌, ℕ, List, Some, None, is_some, true, length};
+ghost use Rattle.std.specs.Prelude.{◌≡◌, ◌≤◌, ◌^◌, ℕ, Bool, List, Some, None, is_some, true, not, ◌==◌, length, IfOk, IsTrue, All};
 ghost use Rattle.pr_words.specs.declared.nexus.Nexus.{Nexus};
 ghost use Rattle.pr_grammar.specs.Standings.{is_registered};
 ghost use Rattle.pr_model.specs.Limits.{LIMIT};
 ghost use Rattle.pr_model.specs.Worlds.{Blocks, opened};
-ghost use Rattle.pr_model.specs.Keeping.{Nothing};
+ghost use Rattle.pr_model.specs.Registrants.{IsAscending, IsSound};
 ghost use Rattle.pr_model.specs.Entries.{entry, Login, Logout, Step, Login_code, Left};
 ghost use Rattle.pr_table.specs.Tables.{standing_of, limit_of};
 ghost use Rattle.pr_tasks.specs.Steps.{LeavesBlock};
 ghost use Rattle.pr_core.specs.Seats.{seat_of};
-ghost use Rattle.pr_core.specs.Fitting.{AllFit, AreOwned};
+ghost use Rattle.pr_core.specs.Fitting.{AllFit, AreOwned, HavePorts, is_one_fact};
 ghost use Rattle.pr_core.specs.Stepping.{Keeps};
 
 use crate::seats::Seats;
 use pr_io::Medium;
-use pr_table::Table;
+use pr_table::{Kept, Table};
 use pr_tasks::StepOut;
 use pr_words::Nexus;
+use std::alloc::{AllocError, Global};
+
+/// How many nexuses can be registered.
+const REGISTRATIONS: usize = 64;
 
 /// What the target knows: registrations, reservation, nexuses and their tasks, over a medium of so
-/// many blocks. Each registered nexus is known, and each that has a task is logged in.
+/// many blocks. Each registered nexus is known, and each that has a task is logged in. All memory
+/// is taken by `restored`.
 #[derive(Drop)]
 pub struct State {
     pub table: Table,
+    /// Where a PERSISTENT RESERVE OUT acts before it is saved.
+    pub spare: Table,
     pub seats: Seats,
     pub blocks: u64,
     ghost limit: { limit_of table ≡ LIMIT },
+    ghost same_limit: { limit_of spare ≡ LIMIT },
     ghost within: { length (standing_of table).pairs ≤ LIMIT },
+    ghost ascending: { IsAscending (standing_of table).pairs },
+    ghost keys: { All (λ p. IsTrue (not (p.key.0 == 0))) (standing_of table).pairs },
+    ghost sound: { IsSound (standing_of table) } by { is_one_fact (standing_of table) },
     ghost seated: { (n : Nexus) → is_registered (standing_of table).pairs n ≡ true → is_some (seat_of seats n) ≡ true },
+    ghost ports: { HavePorts (seat_of seats) },
     ghost fits: { AllFit blocks (seat_of seats) },
     ghost owned: { AreOwned (seat_of seats) },
     ghost some: { 1 ≤ blocks },
@@ -34,22 +46,28 @@ pub struct State {
 }
 
 impl State {
-    ghost use Rattle.pr_core.specs.States.{AreBare, Depicts, Enters, EntersOver, owner_at, progress_at, KeepsOthersAt};
+    ghost use Rattle.pr_aptpl.specs.Doubts.{IsKeepable};
+    ghost use Rattle.pr_core.specs.States.{Depicts, Enters, EntersOver, owner_at, progress_at, KeepsOthersAt};
     ghost use Rattle.pr_core.specs.Outs.{step_out, IsCarried, Progresses};
 
-    /// Nobody is known and nothing is registered.
-    pub fn new(table: Table, seats: Seats, blocks: u64) -> State
-        requires bare { AreBare table seats }
+    /// After a power-up that restored this: nobody is logged in. All memory is taken here.
+    pub fn restored(alloc: Global, kept: &Kept, blocks: u64) -> Result<State, AllocError>
+        requires keepable { IsKeepable kept.now }
         requires some { 1 ≤ blocks }
         requires most { blocks ≤ 2 ^ 40 }
-        ensures depicts { (m : Blocks) → m.count ≡ blocks → Depicts result (opened m Nothing) }
-        ensures blocks { result.blocks ≡ blocks }
+        ensures depicts { IfOk result (λ s. (m : Blocks) (tells : Bool) → m.count ≡ blocks
+            → Depicts s (opened m tells kept.now)) }
+        ensures blocks { IfOk result (λ s. s.blocks ≡ blocks) }
     {
-        State {
+        let table = Table::from_kept(alloc, kept, REGISTRATIONS)?;
+        let spare = Table::new(alloc, REGISTRATIONS)?;
+        let seats = Seats::known(alloc, &table)?;
+        Ok(State {
             table,
+            spare,
             seats,
             blocks,
-        }
+        })
     }
 
     /// The code of the first refusal that applies, or 0.

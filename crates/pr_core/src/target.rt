@@ -1,22 +1,21 @@
-ghost use Rattle.std.specs.Prelude.{◌≡◌, ◌<◌, ◌≤◌, ◌∷◌, [], ℕ, List, Some, None, is_some, true, IfOk, IfErr, length, take};
+ghost use Rattle.std.specs.Prelude.{◌≡◌, ◌<◌, ◌≤◌, ◌∷◌, [], ℕ, Bool, List, Some, None, is_some, true, IfOk, IfErr, length, take};
 ghost use Rattle.pr_model.specs.Worlds.{Blocks, opened};
-ghost use Rattle.pr_model.specs.Keeping.{Nothing};
+ghost use Rattle.pr_grammar.specs.Files.{file_head, file_layout};
+ghost use Rattle.pr_io.specs.Images.{Stays};
+ghost use Rattle.pr_aptpl.specs.Opens.{FailsAt, IsFaultOf};
 ghost use Rattle.pr_model.specs.Entries.{entry, Login, Command, Step, Logout, Login_code, Left};
 ghost use Rattle.pr_model.specs.Histories.{AreBlocksOf};
 ghost use Rattle.pr_tasks.specs.Steps.{LeavesBlock};
 ghost use Rattle.pr_core.specs.Outs.{out_of, step_out, IsCarried, IsFed, IsProper, Begins, Progresses, LeavesData};
 
-use crate::answers::{CommandOut, OpenFault};
-use crate::seats::Seats;
+use crate::answers::CommandOut;
 use crate::state::State;
+use pr_aptpl::{Keeper, OpenFault};
 use pr_io::{Disk, Medium};
-use pr_table::{Kept, Table};
+use pr_table::Kept;
 use pr_tasks::StepOut;
 use pr_words::Nexus;
-use std::alloc::{AllocError, Global};
-
-/// How many nexuses can be registered.
-const REGISTRATIONS: usize = 64;
+use std::alloc::Global;
 
 /// With what a target was opened: what its disk had kept, and how often its devices had failed.
 #[derive(Drop)]
@@ -26,93 +25,60 @@ pub struct Opening {
     pub disk_faults: u64,
 }
 
-/// The memory of a target in which nobody is known and nothing is registered: room for 64
-/// registrations and for 256 known nexuses.
-#[derive(Drop)]
-pub struct Room {
-    alloc: Global,
-    table: Table,
-    seats: Seats,
-}
-
-impl Room {
-    ghost use Rattle.pr_core.specs.View.{IsVacant};
-
-    /// Takes the memory.
-    pub fn new(alloc: Global) -> Result<Room, AllocError>
-        ensures { IfOk result (λ r. IsVacant r) }
-    {
-        Ok(Room {
-            alloc,
-            table: Table::new(alloc, REGISTRATIONS)?,
-            seats: Seats::new(alloc)?,
-        })
-    }
-}
-
-/// A target over a medium and a disk.
+/// A target over a medium, and over a disk that keeps what outlives a power loss.
 #[derive(Drop)]
 pub struct Core<M: Medium, D: Disk> {
     medium: M,
-    disk: D,
+    keeper: Keeper<D>,
     opening: Opening,
     state: State,
     ghost size: { M.count medium ≡ state.blocks },
 }
 
 impl<M: Medium, D: Disk> Core<M, D> {
-    ghost use Rattle.pr_core.specs.View.{IsVacant, StandsFor, medium_of, disk_of, blocks_of, opening_of, owner_of, progress_of, KeepsOthers, Extends};
+    ghost use Rattle.pr_core.specs.View.{StandsFor, Opens, medium_of, disk_of, story_of, blocks_of, opening_of, owner_of, progress_of, KeepsOthers, Extends};
 
-    /// The target after a power-up that restored nothing. All memory is taken here: of 64
-    /// registrations and of 256 known nexuses. Medium and disk aren't touched.
+    /// The target after a power-up, with what the disk has kept (SPC-4, preserving persistent
+    /// reservations). All memory is taken here: of 64 registrations and of 256 known nexuses. The
+    /// disk is synced and read; nothing is written, and the medium isn't touched.
     ///
     /// # Errors
     ///
-    /// Want of memory, with the parts handed back.
+    /// `BadFile` where what was read isn't a registrations' file, `DiskFault` where the disk has
+    /// failed, and want of memory, each with the parts handed back.
     pub fn open(alloc: Global, medium: M, disk: D) -> Result<Core<M, D>, (OpenFault, M, D)>
-        ensures stands { IfOk result (λ c. (m : Blocks) → m.count ≡ M.count medium
-            → AreBlocksOf (M.contents medium) m → StandsFor c (opened m (opening_of c))) }
-        ensures opening { IfOk result (λ c. opening_of c ≡ Nothing) }
+        ensures stands { IfOk result (λ c. (m : Blocks) (tells : Bool) → m.count ≡ M.count medium
+            → AreBlocksOf (M.contents medium) m → StandsFor c (opened m tells (opening_of c))) }
+        ensures opens { IfOk result (λ c. Opens (D.story disk) (story_of c) (opening_of c)) }
         ensures blocks { IfOk result (λ c. blocks_of c ≡ M.count medium) }
-        ensures over { IfOk result (λ c. (medium_of c ≡ medium) × (disk_of c ≡ disk)) }
+        ensures over { IfOk result (λ c. (medium_of c ≡ medium)
+            × (D.reference (disk_of c) ≡ D.reference disk)
+            × (D.faults (disk_of c) ≡ D.faults disk)) }
         ensures counts { IfOk result (λ c. (c.opening.medium_faults ≡ M.faults medium)
             × (c.opening.disk_faults ≡ D.faults disk)) }
-        ensures parts { IfErr result (λ e. (e.1 ≡ medium) × (e.2 ≡ disk)) }
+        ensures parts { IfErr result (λ e. (e.1 ≡ medium)
+            × (D.reference e.2 ≡ D.reference disk) × Stays (D.story disk) (D.story e.2)) }
+        ensures fails { IfErr result (λ e. FailsAt file_head file_layout e.0 (D.story disk)) }
+        ensures fault { IfErr result (λ e. IsFaultOf e.0 (D.faults disk) (D.faults e.2)) }
     {
-        match Room::new(alloc) {
-            Ok(room) => Ok(Core::open_in(room, medium, disk)),
-            Err(_) => Err((OpenFault::OutOfMemory, medium, disk)),
-        }
-    }
-
-    /// The same in memory that was taken before.
-    pub fn open_in(room: Room, medium: M, disk: D) -> Core<M, D>
-        requires { IsVacant room }
-        ensures stands { (m : Blocks) → m.count ≡ M.count medium
-            → AreBlocksOf (M.contents medium) m
-            → StandsFor result (opened m (opening_of result)) }
-        ensures opening { opening_of result ≡ Nothing }
-        ensures blocks { blocks_of result ≡ M.count medium }
-        ensures over { (medium_of result ≡ medium) × (disk_of result ≡ disk) }
-        ensures counts { (result.opening.medium_faults ≡ M.faults medium)
-            × (result.opening.disk_faults ≡ D.faults disk) }
-    {
-        let Room {
-            alloc,
-            table,
-            seats,
-        } = room;
-        let opening = Opening {
-            kept: Kept::nothing(alloc),
-            medium_faults: medium.faults(),
-            disk_faults: disk.faults(),
+        let medium_faults = medium.faults();
+        let disk_faults = disk.faults();
+        let (keeper, kept) = match Keeper::open(alloc, disk) {
+            Ok(opened) => opened,
+            Err((fault, disk)) => return Err((fault, medium, disk)),
         };
-        let state = State::new(table, seats, medium.blocks());
-        Core {
-            medium,
-            disk,
-            opening,
-            state,
+        match State::restored(alloc, &kept, medium.blocks()) {
+            Ok(state) => Ok(Core {
+                medium,
+                keeper,
+                opening: Opening {
+                    kept,
+                    medium_faults,
+                    disk_faults,
+                },
+                state,
+            }),
+            Err(_) => Err((OpenFault::OutOfMemory, medium, keeper.into_disk())),
         }
     }
 
@@ -134,7 +100,7 @@ impl<M: Medium, D: Disk> Core<M, D> {
     pub fn into_parts(self) -> (M, D)
         ensures { (result.0 ≡ medium_of self) × (result.1 ≡ disk_of self) }
     {
-        (self.medium, self.disk)
+        (self.medium, self.keeper.into_disk())
     }
 
     /// A Login of link version `version`: 0 where it is accepted, else the first of these codes
@@ -188,7 +154,8 @@ impl<M: Medium, D: Disk> Core<M, D> {
         ensures proper { IsProper result }
         ensures kept { LeavesData result buf.old buf.new }
     {
-        self.state.command(nexus, lun, cdb, buf, out_len)
+        self.state
+            .command(&mut self.keeper, nexus, lun, cdb, buf, out_len)
     }
 
     /// One step of the READ or WRITE of a nexus: the next block goes from `block` to the medium, or

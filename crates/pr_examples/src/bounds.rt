@@ -1,7 +1,7 @@
 //! Where a run stops looking, and words that hold no word of a command.
 
-use crate::streams::{LOGIN, LOGOUT, bytes_of};
-use pr_io::{MemSink, MemSource, SureDisk, SureMedium, read_up_to};
+use crate::streams::{LOGIN, LOGOUT, bytes_of, fresh_disk};
+use pr_io::{MemSink, MemSource, SureMedium, read_up_to};
 use pr_tool::{Exit, replay_main, replay_within, show_main};
 use std::test::*;
 
@@ -20,7 +20,7 @@ fn no_more_bytes_are_looked_at_than_are_asked_for(rt: HostRuntime) -> Result<(),
         let mut source = MemSource::new(bytes_of(alloc, &[schedule])?, Vec::new(alloc));
         let mut sink = MemSink::new(alloc, Vec::new(alloc));
         let mut medium = SureMedium::new(vec![in alloc; 0u8; 512]?);
-        let mut disk = SureDisk::new(vec![in alloc; 0u8; 262_144]?);
+        let mut disk = fresh_disk(alloc)?;
         let exit = replay_within(
             alloc,
             1,
@@ -43,7 +43,7 @@ fn words_have_no_spaces(rt: HostRuntime) -> Result<(), Fail> {
         let mut source = MemSource::new(Vec::new(alloc), Vec::new(alloc));
         let mut sink = MemSink::new(alloc, Vec::new(alloc));
         let mut medium = SureMedium::new(vec![in alloc; 0u8; 512]?);
-        let mut disk = SureDisk::new(vec![in alloc; 0u8; 262_144]?);
+        let mut disk = fresh_disk(alloc)?;
         let words = ["replay", count];
         let exit = replay_main(
             alloc,

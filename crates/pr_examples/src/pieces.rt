@@ -2,8 +2,8 @@
 
 ghost use Rattle.std.specs.Prelude.{◌<◌, ◌≤◌};
 
-use crate::streams::{ACCEPTED, LOGIN, POWER_ON, TEST_UNIT_READY, bytes_of};
-use pr_io::{MemMedium, MemSink, MemSource, SureDisk};
+use crate::streams::{ACCEPTED, LOGIN, POWER_ON, TEST_UNIT_READY, bytes_of, fresh_disk};
+use pr_io::{MemMedium, MemSink, MemSource};
 use pr_tool::{Exit, replay_main};
 use std::alloc::{AllocError, Global};
 use std::test::*;
@@ -57,7 +57,7 @@ fn written(alloc: Global, size: u16, lacking: usize) -> Result<(MemSink, MemMedi
     let mut source = MemSource::new(schedule, Vec::new(alloc));
     let mut sink = MemSink::new(alloc, Vec::new(alloc));
     let mut medium = MemMedium::new(vec![in alloc; 0u8; 524_288]?, Vec::new(alloc));
-    let mut disk = SureDisk::new(vec![in alloc; 0u8; 262_144]?);
+    let mut disk = fresh_disk(alloc)?;
     let words = ["replay", "1"];
     let exit = replay_main(
         alloc,

@@ -1,6 +1,6 @@
 //! A short session: its bytes, its schedule and its output. Bytes are hexadecimal texts.
 
-use pr_io::{MemSink, MemSource, Sink, Source, SureDisk, SureMedium};
+use pr_io::{DISK, FRESH_HEAD, MemSink, MemSource, Sink, Source, SureDisk, SureMedium};
 use pr_tool::{Exit, replay_main, show_main};
 use std::alloc::Global;
 use std::test::*;
@@ -82,14 +82,21 @@ pub fn text_of(alloc: Global, lines: &[&str]) -> Result<Vec<u8>, Fail> {
     Ok(text)
 }
 
-/// Runs `replay 1` over a disk of zeros and a medium of one block.
+/// A disk on which nothing was kept yet.
+pub fn fresh_disk(alloc: Global) -> Result<SureDisk, Fail> {
+    let mut image = FRESH_HEAD.to_vec(alloc)?;
+    image.resize(DISK, 0)?;
+    Ok(SureDisk::new(image))
+}
+
+/// Runs `replay 1` over a fresh disk and a medium of one block.
 pub fn replay<S: Source, K: Sink>(
     alloc: Global,
     source: &mut S,
     sink: &mut K,
 ) -> Result<Exit, Fail> {
     let mut medium = SureMedium::new(vec![in alloc; 0u8; 512]?);
-    let mut disk = SureDisk::new(vec![in alloc; 0u8; 262_144]?);
+    let mut disk = fresh_disk(alloc)?;
     let words = ["replay", "1"];
     Ok(replay_main(alloc, &words, source, sink, &mut medium, &mut disk))
 }

@@ -1,4 +1,4 @@
-ghost use Rattle.std.specs.Prelude.{◌≡◌, IfOk};
+ghost use Rattle.std.specs.Prelude.{◌≡◌, None, IfOk};
 ghost use Rattle.pr_io.specs.Causes.{HasCause};
 
 use crate::faults::Faults;
@@ -57,6 +57,8 @@ impl Disk for FileDisk {
     ghost use Rattle.pr_io.specs.Images.{untold};
 
     ghost story = { λ _. untold };
+
+    ghost reference = { λ _. None };
 
     ghost faults = { λ d. d.faults.count };
 

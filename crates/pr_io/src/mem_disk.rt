@@ -1,4 +1,4 @@
-ghost use Rattle.std.specs.Prelude.{◌≡◌, ◌≤◌, ◌<◌, ◌+◌, ◌++◌, ◌⊎◌, ℕ, Some, [], ◌∷◌, length, slice_index, IfOk, OnOk, OnErr, IsErr};
+ghost use Rattle.std.specs.Prelude.{◌≡◌, ◌≤◌, ◌<◌, ◌+◌, ◌++◌, ◌⊎◌, ℕ, Some, None, [], ◌∷◌, length, slice_index, IfOk, OnOk, OnErr, IsErr};
 ghost use Rattle.pr_io.specs.Blocks.{disk_size};
 ghost use Rattle.pr_io.specs.Calls.{IsToFail, next_call};
 ghost use Rattle.pr_io.specs.Causes.{HasCause, Rose};
@@ -71,6 +71,8 @@ impl Disk for MemDisk {
 
     ghost story = { λ d. recorded d.bytes.items d.log.items };
 
+    ghost reference = { λ _. None };
+
     ghost faults = { λ d. d.faults.count };
 
     ghost since = { λ d t u c le may. since_before d.bytes.items d.log.items t u c le may };
@@ -84,6 +86,8 @@ impl Disk for MemDisk {
             (⟦<MemDisk as Disk>⟧.story self.new) }
         ensures pending { GoesOn (⟦<MemDisk as Disk>⟧.story self.old)
             (⟦<MemDisk as Disk>⟧.story self.new) }
+        ensures reference { ⟦<MemDisk as Disk>⟧.reference self.new
+            ≡ ⟦<MemDisk as Disk>⟧.reference self.old }
         ensures cause { HasCause (⟦<MemDisk as Disk>⟧.faults self.old)
             (⟦<MemDisk as Disk>⟧.faults self.new) result }
         ensures listed { IsToFail self.old.calls.failing.items self.old.calls.made → IsErr result }
@@ -115,6 +119,8 @@ impl Disk for MemDisk {
         ensures pending { Rose self.old.starved self.new.starved
             ⊎ IsPending at (length bytes.now) (⟦<MemDisk as Disk>⟧.story self.old)
             (⟦<MemDisk as Disk>⟧.story self.new) }
+        ensures reference { ⟦<MemDisk as Disk>⟧.reference self.new
+            ≡ ⟦<MemDisk as Disk>⟧.reference self.old }
         ensures cause { HasCause (⟦<MemDisk as Disk>⟧.faults self.old)
             (⟦<MemDisk as Disk>⟧.faults self.new) result }
         ensures listed { IsToFail self.old.calls.failing.items self.old.calls.made → IsErr result }
@@ -144,6 +150,8 @@ impl Disk for MemDisk {
             (⟦<MemDisk as Disk>⟧.story self.new) }
         ensures pending { OnErr result (GoesOn (⟦<MemDisk as Disk>⟧.story self.old)
             (⟦<MemDisk as Disk>⟧.story self.new)) }
+        ensures reference { ⟦<MemDisk as Disk>⟧.reference self.new
+            ≡ ⟦<MemDisk as Disk>⟧.reference self.old }
         ensures cause { HasCause (⟦<MemDisk as Disk>⟧.faults self.old)
             (⟦<MemDisk as Disk>⟧.faults self.new) result }
         ensures listed { IsToFail self.old.calls.failing.items self.old.calls.made → IsErr result }

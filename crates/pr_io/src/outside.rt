@@ -116,6 +116,9 @@ pub trait Disk {
     /// since a moment.
     ghost story: { Self → Story };
 
+    /// Which reference the disk is, where it is one; no call changes that.
+    ghost reference: { Self → Option GName };
+
     /// How often the disk has failed.
     ghost faults: { Self → ℕ };
 
@@ -128,6 +131,7 @@ pub trait Disk {
         requires { at + length buf.old ≤ disk_size }
         ensures bytes { OnOk result (Reads (story self.old).now at buf.new) }
         ensures stays { Stays (story self.old) (story self.new) }
+        ensures reference { reference self.new ≡ reference self.old }
         ensures cause { HasCause (faults self.old) (faults self.new) result };
 
     /// Writes bytes from a place on.
@@ -138,6 +142,7 @@ pub trait Disk {
     fn write_at(&mut self, at: u64, bytes: &[u8]) -> Result<(), Failed>
         requires { at + length bytes.now ≤ disk_size }
         ensures writes { Writes result at bytes.now (story self.old) (story self.new) }
+        ensures reference { reference self.new ≡ reference self.old }
         ensures cause { HasCause (faults self.old) (faults self.new) result };
 
     /// Waits until no power loss takes away what was written.
@@ -147,6 +152,7 @@ pub trait Disk {
     /// Where the disk has failed. What was pending is pending still.
     fn sync(&mut self) -> Result<(), Failed>
         ensures syncs { Syncs result (story self.old) (story self.new) }
+        ensures reference { reference self.new ≡ reference self.old }
         ensures cause { HasCause (faults self.old) (faults self.new) result };
 
     /// How often the disk has failed so far. The count stands still at 2^64 - 1.
@@ -210,6 +216,8 @@ impl<M: Medium> Medium for &mut M {
 
 impl<D: Disk> Disk for &mut D {
     ghost story = { λ d. D.story d.now };
+
+    ghost reference = { λ d. Some d.ghost_name };
 
     ghost faults = { λ d. D.faults d.now };
 

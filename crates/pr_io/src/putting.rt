@@ -1,4 +1,4 @@
-ghost use Rattle.std.specs.Prelude.{◌≤◌, ◌+◌, length};
+ghost use Rattle.std.specs.Prelude.{◌≡◌, ◌≤◌, ◌+◌, length};
 ghost use Rattle.pr_io.specs.Blocks.{disk_size};
 ghost use Rattle.pr_io.specs.Causes.{HasCause};
 ghost use Rattle.pr_io.specs.Spans.{Puts, Settles};
@@ -13,6 +13,7 @@ use crate::{Disk, Failed};
 pub fn put<D: Disk>(disk: &mut D, at: u64, bytes: &[u8]) -> Result<(), Failed>
     requires { at + length bytes.now ≤ disk_size }
     ensures puts { Puts result at bytes.now (D.story disk.old) (D.story disk.new) }
+    ensures reference { D.reference disk.new ≡ D.reference disk.old }
     ensures cause { HasCause (D.faults disk.old) (D.faults disk.new) result }
 {
     disk.write_at(at, bytes)?;
@@ -26,6 +27,7 @@ pub fn put<D: Disk>(disk: &mut D, at: u64, bytes: &[u8]) -> Result<(), Failed>
 /// Where the disk has failed. It holds the same nevertheless.
 pub fn settle<D: Disk>(disk: &mut D) -> Result<(), Failed>
     ensures settles { Settles result (D.story disk.old) (D.story disk.new) }
+    ensures reference { D.reference disk.new ≡ D.reference disk.old }
     ensures cause { HasCause (D.faults disk.old) (D.faults disk.new) result }
 {
     disk.sync()

@@ -133,6 +133,8 @@ impl Disk for SureDisk {
 
     ghost story = { λ d. read_alone d.image.items };
 
+    ghost reference = { λ _. None };
+
     ghost faults = { λ _. 0 };
 
     ghost since = { λ d t u c le may. may };

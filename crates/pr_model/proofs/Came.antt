@@ -26,12 +26,14 @@ use Rattle.pr_model.specs.Entries as entries
 use Rattle.pr_model.specs.Entries.{Act, Out, Entry, Login, Command, Step, Logout, Power, entry, Started, Ended}
 use Rattle.pr_model.specs.Commands.{Answer, answer, good, checking, conflict, by_verdict, out_request, hand_out, served, answered}
 use Rattle.pr_model.specs.Steps.{MayStepIn, stepped_in}
+use Rattle.pr_model.specs.Saving.{tells_failure, settled, MayAnswer, MayRestore}
 use Rattle.pr_model.specs.Histories.{MayEnd, MayFollow, moved, moved_by, login_code, logged_in}
 use Rattle.pr_model.specs.Fencing.{Fences, IsPreemptAndAbort, IsStarted, IsStartOf}
 use Rattle.pr_model.proofs.Orders.{same_is}
 use Rattle.pr_model.proofs.Checked.{answer_fits, reported}
 use Rattle.pr_model.proofs.Removed.{abort_parts}
 use Rattle.pr_model.proofs.Reaching.{acted_reaches}
+use Rattle.pr_model.proofs.Settling.{settles}
 
 same_self : (n : Nexus) → same_nexus n n ≡ true
 same_self n = grind (arith, common_steps)
@@ -130,13 +132,13 @@ module _ (w : World) (m : Nexus) (cdb : List ℕ) (n : Nexus) where
 
   -- PERSISTENT RESERVE OUT
   reserve_comes : operation_at (operation_code cdb) ≡ Some operations.ReserveOut → (o : acts.ReserveOut) → o.action ≡ service_action cdb → (a : Acted) → a ≡ acted LIMIT w.standing m o
-      → (v : Verdict) → Comes (by_verdict w (record w { standing = a.standing; attentions = told m a w.attentions; task = marked (service_action cdb) a.removed w.task }) v)
+      → (v : Verdict) → Comes (by_verdict w (record w { standing = a.standing; attentions = told m a w.attentions; task = marked (service_action cdb) a.removed w.task; doubts = [] }) v)
   reserve_comes at o named a is Conflict now runs = conflict_comes now runs
   reserve_comes at o named a is (Bad c) now runs = refusal_comes c now runs
   reserve_comes at o named a is Good now runs = by (service_action cdb == 5) (is_registered a.removed n) refl refl (w.task n) refl runs
     where
       next : World
-      next = record w { standing = a.standing; attentions = told m a w.attentions; task = marked (service_action cdb) a.removed w.task }
+      next = record w { standing = a.standing; attentions = told m a w.attentions; task = marked (service_action cdb) a.removed w.task; doubts = [] }
 
       by : (five gone : Bool) → (service_action cdb == 5) ≡ five → is_registered a.removed n ≡ gone → (t : Option Task) → w.task n ≡ t → cond (five && gone) (option_map aborted t) t ≡ Some now
           → Went w n ((m ≡ n) × ⊥) (FencedBy w cdb (answer next (good [])) n) now ⊎ Starting w m n (good []) now
@@ -202,18 +204,21 @@ module _ (w : World) (m : Nexus) (cdb : List ℕ) (n : Nexus) where
       (reported w m (operation_code cdb) (w.attentions m) Comes (λ c rest. unchanged (answer (record w { attentions = set_at w.attentions m rest }) (checking c)) refl (λ s. s) (λ f. let e = f.good in absurd cc)))
       (λ free. served_comes lun sent (operation_at (operation_code cdb)) refl free)
 
-command_comes : (w : World) (who : ℕ) (m : Nexus) (lun : ℕ) (cdb sent : List ℕ) (out : Out) (n : Nexus) (now : Task) → out ≡ (answered w m lun cdb sent).out → (answered w m lun cdb sent).world.task n ≡ Some now
-    → CameBy w (entry who m (Command lun cdb sent) out) n now
-command_comes w who m lun cdb sent out n now is runs = by (answered_comes w m cdb n lun sent now runs)
+command_comes : (w : World) (who : ℕ) (m : Nexus) (lun : ℕ) (cdb sent : List ℕ) (out : Out) (n : Nexus) (now : Task) → out ≡ (answered w m lun cdb sent).out → settled w (answered w m lun cdb sent) out ≡ (answered w m lun cdb sent).world
+    → (answered w m lun cdb sent).world.task n ≡ Some now → CameBy w (entry who m (Command lun cdb sent) out) n now
+command_comes w who m lun cdb sent out n now is left runs = by (answered_comes w m cdb n lun sent now runs)
   where
     a : Answer
     a = answered w m lun cdb sent
 
+    registered : is_registered (settled w a out).standing.pairs n ≡ is_registered a.world.standing.pairs n
+    registered = ap (λ (v : World). is_registered v.standing.pairs n) left
+
     here : Fences w (entry who m (Command lun cdb sent) out) n → FencedBy w cdb a n
-    here f = record { asks = f.asks; good = sym is ∙ f.good; was = f.was; gone = f.gone }
+    here f = record { asks = f.asks; good = sym is ∙ f.good; was = f.was; gone = sym registered ∙ f.gone }
 
     back : FencedBy w cdb a n → Fences w (entry who m (Command lun cdb sent) out) n
-    back f = record { asks = f.asks; good = is ∙ f.good; was = f.was; gone = f.gone }
+    back f = record { asks = f.asks; good = is ∙ f.good; was = f.was; gone = registered ∙ f.gone }
 
     marks_back : (t : Task) → (t.aborted ≡ true) ⊎ (IsAscending w.standing.pairs → FencedBy w cdb a n) → (t.aborted ≡ true) ⊎ (IsAscending w.standing.pairs → Fences w (entry who m (Command lun cdb sent) out) n)
     marks_back t (inl e) = inl e
@@ -291,13 +296,59 @@ step_ends m (Some t) sent (Ended status sense data_in) may s = s
 step_ends m (Some t) sent entries.Left may s = s
 step_ends m (Some t) sent (entries.Restored value) may s = s
 
+-- a command whose save failed leaves the tasks as they were, and begins none
+unsaved_comes : (w : World) (who : ℕ) (m : Nexus) (lun : ℕ) (cdb sent : List ℕ) (out : Out) (n : Nexus) (now : Task) → tells_failure out ≡ true → w.task n ≡ Some now → CameBy w (entry who m (Command lun cdb sent) out) n now
+unsaved_comes w who m lun cdb sent out n now tells runs =
+    inl (record {
+      task = now;
+      ran = runs;
+      way = refl;
+      other = λ b. no_start out tells b.1;
+      marks = λ x. inl x;
+      stays = λ x. x;
+      fenced = λ f. absurd (false≢true (sym (ap tells_failure f.good) ∙ tells));
+    })
+  where
+    no_start : (out : Out) → tells_failure out ≡ true → IsStarted out → ⊥
+    no_start (Started way) tells s = false≢true tells
+    no_start (Ended status sense data_in) tells s = s
+    no_start entries.Wrote tells s = s
+    no_start (entries.Read block) tells s = s
+    no_start (entries.Fault code) tells s = s
+    no_start entries.Done tells s = s
+    no_start entries.Aborted tells s = s
+    no_start (entries.Login_code code) tells s = s
+    no_start entries.Left tells s = s
+    no_start (entries.Restored value) tells s = s
+
+settled_comes : (w : World) (who : ℕ) (m : Nexus) (lun : ℕ) (cdb sent : List ℕ) (out : Out) (n : Nexus) (now : Task) → MayAnswer w (answered w m lun cdb sent) out → (settled w (answered w m lun cdb sent) out).task n ≡ Some now
+    → CameBy w (entry who m (Command lun cdb sent) out) n now
+settled_comes w who m lun cdb sent out n now may is =
+    elim (settles w (answered w m lun cdb sent) out may) [
+      | inl s ↦ command_comes w who m lun cdb sent out n now s.0 s.1 (sym (ap (λ (v : World). v.task n) s.1) ∙ is)
+      | inr s ↦ unsaved_comes w who m lun cdb sent out n now s.0 (sym (ap (λ (v : World). v.task n) s.1) ∙ is)
+    ]
+
+-- after a power-up no task runs
+power_ends : (w : World) (out : Out) (n : Nexus) (now : Task) → MayRestore w out → (moved_by w 0 n Power out).task n ≡ Some now → ⊥
+power_ends w (entries.Restored value) n now may is = absurd cc
+power_ends w (Started way) n now may is = may
+power_ends w (Ended status sense data_in) n now may is = may
+power_ends w entries.Wrote n now may is = may
+power_ends w (entries.Read block) n now may is = may
+power_ends w (entries.Fault code) n now may is = may
+power_ends w entries.Done n now may is = may
+power_ends w entries.Aborted n now may is = may
+power_ends w (entries.Login_code code) n now may is = may
+power_ends w entries.Left n now may is = may
+
 pub came_by : (w : World) (e : Entry) (n : Nexus) (now : Task) → MayFollow w e → (moved w e).task n ≡ Some now → CameBy w e n now
 came_by w e n now may is = by e.who e.nexus e.act e.out may is
   where
     by : (who : ℕ) (m : Nexus) (act : Act) (out : Out) → MayEnd w who m act out → (moved_by w who m act out).task n ≡ Some now → CameBy w (entry who m act out) n now
     by who m (Login version) out may is =
         as_came w (entry who m (Login version) out) n now (λ s. subst IsStarted may s) (λ x. x) (login_runs w (logged_in w who m) (login_code w version m == 0) n now refl is)
-    by who m (Command lun cdb sent) out may is = command_comes w who m lun cdb sent out n now may.2 is
+    by who m (Command lun cdb sent) out may is = settled_comes w who m lun cdb sent out n now may.2 is
     by who m (Step sent) out may is = as_came w (entry who m (Step sent) out) n now (step_ends w.medium (w.task m) sent out may.1) (λ x. x) (step_runs w m n (w.task m) sent out now refl may.1 is)
     by who m Logout out may is = as_came w (entry who m Logout out) n now (λ s. subst IsStarted may.1 s) (λ x. x) (set_runs w m n None now (λ u e. absurd cc) is)
-    by who m Power out may is = absurd may
+    by who m Power out may is = absurd (power_ends w out n now may is)

@@ -46,7 +46,7 @@ module _ (P : Answer → Type 0) (w : World) (refused : (c : Code) → P (answer
   joined (c ∷ cs) ds left right = (left.0, joined cs ds left.1 right)
 
   command_fits : (command : Command) (sent : List ℕ) → AllFit (command_checks w command sent)
-  command_fits (commands.ReserveOut action scope kind list) sent = (plain _ _, (plain _ _, (plain _ _, (plain _ _, (plain _ _, tt)))))
+  command_fits (commands.ReserveOut action scope kind list) sent = (plain _ _, (plain _ _, (plain _ _, (plain _ _, tt))))
   command_fits (commands.ReserveIn action allocation) sent = (plain _ _, (plain _ _, tt))
   command_fits commands.TestUnitReady sent = (plain _ _, tt)
   command_fits (commands.RequestSense descriptor allocation) sent = (plain _ _, tt)

@@ -25,5 +25,7 @@ pub mod Came
 pub mod Moved
 pub mod Walk
 pub mod Refused
+pub mod Settling
 pub mod Sizes
 pub mod Computed
+pub mod Acknowledged

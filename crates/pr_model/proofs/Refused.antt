@@ -53,4 +53,4 @@ refusals_change_little w n lun cdb sent =
     (λ a is refused. inr is) (λ free refused. inl (served_leaves w n lun (command_of (operation_code cdb) cdb) sent refused))
 
 pub one_outcome : HasOneOutcome
-one_outcome w who n lun cdb sent has idle = ((answered w n lun cdb sent).out, (has, idle, refl), λ other may. may.2)
+one_outcome w who n lun cdb sent has idle = ((answered w n lun cdb sent).out, (has, idle, inl refl), λ other may. may.2)

@@ -17,6 +17,7 @@ use Rattle.pr_model.specs.Steps.{failed_block, stepped_in}
 use Rattle.pr_model.specs.Histories.{login_code, logged_in, moved_by}
 use Rattle.pr_model.specs.Laws.{KeepsSize}
 use Rattle.pr_model.proofs.Checked.{answer_fits, reported}
+use Rattle.pr_model.proofs.Settling.{settled_keeps}
 
 verdict_keeps : (w next : World) (v : Verdict) → next.medium ≡ w.medium → (by_verdict w next v).world.medium ≡ w.medium
 verdict_keeps w next Good same = same
@@ -96,7 +97,7 @@ IsStep entries.Power = ⊥
 
 pub others_keep : (w : World) (who : ℕ) (n : Nexus) (act : Act) (out : Out) → (IsStep act → ⊥) → (moved_by w who n act out).medium ≡ w.medium
 others_keep w who n (entries.Login version) out other = login_keeps w (logged_in w who n) (login_code w version n == 0) refl
-others_keep w who n (entries.Command lun cdb sent) out other = answer_keeps w n lun cdb sent
+others_keep w who n (entries.Command lun cdb sent) out other = settled_keeps w (answered w n lun cdb sent) out (answer_keeps w n lun cdb sent)
 others_keep w who n (entries.Step block) out other = absurd (other tt)
 others_keep w who n entries.Logout out other = refl
 others_keep w who n entries.Power out other = power_keeps w who n out

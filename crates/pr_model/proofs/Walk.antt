@@ -22,11 +22,12 @@ use Rattle.pr_model.specs.Limits.{LIMIT}
 use Rattle.pr_model.specs.Registrants.{IsSound, IsHeldIn, IsWellFormed}
 use Rattle.pr_model.specs.Conflicts.{is_forbidden, conflicts, conflicts_in, role_of}
 use Rattle.pr_model.specs.Acts.{ReserveOut, Verdict, Good, Conflict, Bad, acted}
-use Rattle.pr_model.specs.Worlds.{World, Task, set_at}
+use Rattle.pr_model.specs.Worlds.{World, Task, set_at, restored}
 use Rattle.pr_model.specs.Tasks.{new_task, medium_error}
 use Rattle.pr_model.specs.Entries as entries
 use Rattle.pr_model.specs.Entries.{Act, Out, Entry, History, Login, Step, Logout, Power, entry, Started, Ended, Wrote, Fault, Aborted}
 use Rattle.pr_model.specs.Commands.{Answer, answer, good, by_verdict, out_request, hand_out, served, answered}
+use Rattle.pr_model.specs.Saving.{tells_failure, is_unsaved, doubted, settled, MayAnswer, MayRestore}
 use Rattle.pr_model.specs.Steps.{MayStep, MayStepIn, stepped_in}
 use Rattle.pr_model.specs.Histories.{MayEnd, MayFollow, moved, moved_by, after, IsLegalFrom, login_code, logged_in}
 use Rattle.pr_model.specs.Fencing.{Fences, IsStarted, IsStartOf, Began, BeganOpen, IsOpenTo, IsWrite, WasFenced}
@@ -35,11 +36,12 @@ use Rattle.pr_model.proofs.Orders.{same_is}
 use Rattle.pr_model.proofs.Checked.{answer_fits, reported}
 use Rattle.pr_model.proofs.Holders.{acted_sound}
 use Rattle.pr_model.proofs.WellFormed.{well_formed}
+use Rattle.pr_model.proofs.Settling.{settles}
 use Rattle.pr_model.proofs.Came.{CameBy, came_by}
 
--- What every act of PERSISTENT RESERVE OUT keeps, every entry keeps
+-- What every act of PERSISTENT RESERVE OUT keeps, and all well formed registrants have, every entry keeps
 
-module _ (Q : Standing → Type 0) (kept : (s : Standing) (n : Nexus) (o : ReserveOut) → Q s → Q (acted LIMIT s n o).standing) where
+module _ (Q : Standing → Type 0) (kept : (s : Standing) (n : Nexus) (o : ReserveOut) → Q s → Q (acted LIMIT s n o).standing) (formed : (s : Standing) → IsWellFormed LIMIT s → Q s) where
   abbrev Keeps : World → Answer → Type 0
   Keeps w a = Q w.standing → Q a.world.standing
 
@@ -94,19 +96,41 @@ module _ (Q : Standing → Type 0) (kept : (s : Standing) (n : Nexus) (o : Reser
   login_keeps w next true p q = p
   login_keeps w next false p q = q
 
+  settled_keep : (w : World) (a : Answer) (out : Out) → Keeps w a → Q w.standing → Q (settled w a out).standing
+  settled_keep w a out keeps q = by (is_unsaved w a out)
+    where
+      by : (b : Bool) → Q (cond b (doubted w a) a.world).standing
+      by true = q
+      by false = keeps q
+
+  power_keeps : (w : World) (who : ℕ) (n : Nexus) (out : Out) → MayRestore w out → Q (moved_by w who n Power out).standing
+  power_keeps w who n (entries.Restored value) may = formed (restored value) may.0
+  power_keeps w who n entries.Wrote may = absurd may
+  power_keeps w who n (entries.Read bytes) may = absurd may
+  power_keeps w who n (entries.Fault code) may = absurd may
+  power_keeps w who n entries.Done may = absurd may
+  power_keeps w who n entries.Aborted may = absurd may
+  power_keeps w who n (entries.Login_code code) may = absurd may
+  power_keeps w who n (entries.Ended status sense data_in) may = absurd may
+  power_keeps w who n (entries.Started way) may = absurd may
+  power_keeps w who n entries.Left may = absurd may
+
   pub entry_keeps : (w : World) (e : Entry) → MayFollow w e → Q w.standing → Q (moved w e).standing
   entry_keeps w e may q = by e.who e.nexus e.act e.out may
     where
       by : (who : ℕ) (m : Nexus) (act : Act) (out : Out) → MayEnd w who m act out → Q (moved_by w who m act out).standing
       by who m (Login version) out may = login_keeps w (logged_in w who m) (login_code w version m == 0) q q
-      by who m (entries.Command lun cdb sent) out may = answered_keeps w m lun cdb sent q
+      by who m (entries.Command lun cdb sent) out may = settled_keep w (answered w m lun cdb sent) out (answered_keeps w m lun cdb sent) q
       by who m (Step sent) out may = step_keeps w m (w.task m) sent out q
       by who m Logout out may = q
-      by who m Power out may = absurd may
+      by who m Power out may = power_keeps w who m out may
 
   pub history_keeps : (w : World) (xs ys : History) → IsLegalFrom w (xs ++ ys) → Q w.standing → Q (after w xs).standing
   history_keeps w [] ys legal q = q
   history_keeps w (x ∷ xs) ys legal q = history_keeps (moved w x) xs ys legal.1 (entry_keeps w x legal.0 q)
+
+well_is_sound : (s : Standing) → IsWellFormed LIMIT s → IsSound s
+well_is_sound s well = well.sound
 
 pub legal_behind : (w : World) (xs ys : History) → IsLegalFrom w (xs ++ ys) → IsLegalFrom (after w xs) ys
 legal_behind w [] ys legal = legal
@@ -207,6 +231,22 @@ answered_writes w n lun cdb sent =
     answer_fits NoWrite w (λ c. ended_writes _ _ _ _ refl) n lun cdb sent (ended_writes _ _ _ _ refl) (reported w n (operation_code cdb) (w.attentions n) NoWrite (λ c rest. ended_writes _ _ _ _ refl))
     (λ free. served_writes w n lun (command_of (operation_code cdb) cdb) sent)
 
+-- nor is one whose save failed, nor a power-up
+failure_writes : (out : Out) → tells_failure out ≡ true → IsWrite out → ⊥
+failure_writes out tells (inl wrote) = false≢true (sym (ap tells_failure wrote) ∙ tells)
+failure_writes out tells (inr failed) = false≢true (sym (ap tells_failure failed) ∙ tells)
+
+settled_writes : (w : World) (a : Answer) (out : Out) → NoWrite a → MayAnswer w a out → IsWrite out → ⊥
+settled_writes w a out none may writes =
+    elim (settles w a out may) [
+      | inl s ↦ none (subst IsWrite s.0 writes)
+      | inr s ↦ failure_writes out s.0 writes
+    ]
+
+power_writes : (w : World) (out : Out) → MayRestore w out → IsWrite out → ⊥
+power_writes w out may (inl wrote) = subst (MayRestore w) wrote may
+power_writes w out may (inr failed) = subst (MayRestore w) failed may
+
 -- what was written, was written by a WRITE that runs
 writes_now : (w : World) (f : Entry) (n : Nexus) → MayFollow w f → f.nexus ≡ n → IsWrite f.out → WritesOn w n
 writes_now w f n may at writes = subst (WritesOn w) at (by f.who f.nexus f.act f.out may writes)
@@ -217,10 +257,10 @@ writes_now w f n may at writes = subst (WritesOn w) at (by f.who f.nexus f.act f
 
     by : (who : ℕ) (m : Nexus) (act : Act) (out : Out) → MayEnd w who m act out → IsWrite out → WritesOn w m
     by who m (Login version) out may writes = absurd (no_write (entries.Login_code (login_code w version m)) (λ e. absurd cc) (λ c e. absurd cc) (subst IsWrite may writes))
-    by who m (entries.Command lun cdb sent) out may writes = absurd (answered_writes w m lun cdb sent (subst IsWrite may.2 writes))
+    by who m (entries.Command lun cdb sent) out may writes = absurd (settled_writes w (answered w m lun cdb sent) out (answered_writes w m lun cdb sent) may.2 writes)
     by who m (Step sent) out may writes = write_runs w m (w.task m) sent out refl may.1 writes
     by who m Logout out may writes = absurd (no_write entries.Left (λ e. absurd cc) (λ c e. absurd cc) (subst IsWrite may.1 writes))
-    by who m Power out may writes = absurd may
+    by who m Power out may writes = absurd (power_writes w out may writes)
 
 -- a WRITE that runs after an entry ran before it, or is begun by it
 before_or_here : (w : World) (e : Entry) (n : Nexus) → IsSound w.standing → MayFollow w e → WritesOn (moved w e) n
@@ -249,7 +289,7 @@ record RanOn (w : World) (ys : History) (n : Nexus) : Type 0 where
 
 walk : (w : World) (ys : History) (f : Entry) (zs : History) (n : Nexus) → IsSound w.standing → IsLegalFrom w (ys ++ f ∷ zs) → f.nexus ≡ n → IsWrite f.out → RanOn w ys n ⊎ BeganOpen w ys n
 walk w [] f zs n sound legal at writes = inl (record { on = writes_now w f n legal.0 at writes; last = tt })
-walk w (e ∷ ys) f zs n sound legal at writes = by (walk (moved w e) ys f zs n (entry_keeps IsSound (acted_sound LIMIT) w e legal.0 sound) legal.1 at writes)
+walk w (e ∷ ys) f zs n sound legal at writes = by (walk (moved w e) ys f zs n (entry_keeps IsSound (acted_sound LIMIT) well_is_sound w e legal.0 sound) legal.1 at writes)
   where
     by : RanOn (moved w e) ys n ⊎ BeganOpen (moved w e) ys n → RanOn w (e ∷ ys) n ⊎ BeganOpen w (e ∷ ys) n
     by (inr b) =
@@ -266,13 +306,13 @@ walk w (e ∷ ys) f zs n sound legal at writes = by (walk (moved w e) ys f zs n 
 
 pub legal_is_fenced : LegalIsFenced
 legal_is_fenced w h sound legal xs e ys f zs n cut fences at writes =
-    by (walk (moved (after w xs) e) ys f zs n (entry_keeps IsSound (acted_sound LIMIT) (after w xs) e behind.0 here) behind.1 at writes)
+    by (walk (moved (after w xs) e) ys f zs n (entry_keeps IsSound (acted_sound LIMIT) well_is_sound (after w xs) e behind.0 here) behind.1 at writes)
   where
     behind : IsLegalFrom (after w xs) (e ∷ (ys ++ f ∷ zs))
     behind = legal_behind w xs (e ∷ (ys ++ f ∷ zs)) (subst (λ (g : History). IsLegalFrom w g) cut legal)
 
     here : IsSound (after w xs).standing
-    here = history_keeps IsSound (acted_sound LIMIT) w xs (e ∷ (ys ++ f ∷ zs)) (subst (λ (g : History). IsLegalFrom w g) cut legal) sound
+    here = history_keeps IsSound (acted_sound LIMIT) well_is_sound w xs (e ∷ (ys ++ f ∷ zs)) (subst (λ (g : History). IsLegalFrom w g) cut legal) sound
 
     by : RanOn (moved (after w xs) e) ys n ⊎ BeganOpen (moved (after w xs) e) ys n → BeganOpen (moved (after w xs) e) ys n
     by (inl r) = absurd (fence_marks (after w xs) e n behind.0 fences r.on)
@@ -320,7 +360,7 @@ record Begun (w : World) (es : History) (n : Nexus) (now : Task) : Type 0 where
 
 trace : (w : World) (es : History) (n : Nexus) (now : Task) → IsWellFormed LIMIT w.standing → IsLegalFrom w es → (after w es).task n ≡ Some now → Ran w es n now ⊎ Begun w es n now
 trace w [] n now well legal runs = inl (record { task = now; runs = runs; last = tt; forth = λ e. inl e; stays = λ e. e; back = λ f. absurd (none_fenced w n f) })
-trace w (e ∷ es) n now well legal runs = by (trace (moved w e) es n now (entry_keeps (IsWellFormed LIMIT) (well_formed LIMIT) w e legal.0 well) legal.1 runs)
+trace w (e ∷ es) n now well legal runs = by (trace (moved w e) es n now (entry_keeps (IsWellFormed LIMIT) (well_formed LIMIT) (λ s well. well) w e legal.0 well) legal.1 runs)
   where
     by : Ran (moved w e) es n now ⊎ Begun (moved w e) es n now → Ran w (e ∷ es) n now ⊎ Begun w (e ∷ es) n now
     by (inr b) =

@@ -1,5 +1,5 @@
 -- What a command is answered, and the world that it leaves (SPC-4).
-use Rattle.std.specs.Prelude.{ℕ, ◌+◌, ◌*◌, ◌-◌, ◌==◌, ◌&&◌, ◌||◌, nat_lt, not, Bool, true, false, List, [], ◌∷◌, ◌++◌, length, take, Option, Some, None, is_some, if◌then◌else◌}
+use Rattle.std.specs.Prelude.{ℕ, ◌+◌, ◌*◌, ◌-◌, ◌==◌, ◌&&◌, ◌||◌, nat_lt, not, Bool, true, List, [], ◌∷◌, ◌++◌, length, take, Option, Some, None, is_some, if◌then◌else◌}
 use Rattle.pr_words.specs.declared.nexus.Nexus.{Nexus}
 use Rattle.pr_words.specs.declared.code.Code.{Code}
 use Rattle.pr_words.specs.declared.code.Status.TheVariants as status
@@ -138,14 +138,13 @@ transfer_checks w protect lba count =
     ∷ refused_where (is_beyond w lba count) w out_of_range
     ∷ []
 
--- by the command's own fields, by its data-out's length, and by its parameter list, which has 24 bytes, since none with SPEC_I_PT is supported; APTPL isn't supported yet
+-- by the command's own fields, by its data-out's length, and by its parameter list, which has 24 bytes, since none with SPEC_I_PT is supported
 abbrev pub command_checks : World → Command → List ℕ → List (Option Answer)
 command_checks w (ReserveOut action scope kind list) sent =
     refused_where (has_bad_service action scope kind) w invalid_field
     ∷ length_check w list sent
     ∷ refused_where (not (list == 24)) w list_length_error
     ∷ refused_where (has_bad_list action (list_of sent)) w invalid_list
-    ∷ refused_where (list_of sent).aptpl w invalid_list
     ∷ []
 command_checks w (ReserveIn action allocation) sent =
     refused_where (not (is_some (in_service_at action))) w invalid_field ∷ length_check w 0 sent ∷ []
@@ -199,7 +198,7 @@ reserve_in_data action s =
     if action == 1 then reservation_reply s else
     if action == 2 then capabilities_reply s else full_reply s
 
--- PERSISTENT RESERVE OUT: only one that is accepted changes the world: the registrations and the reservation, what others are told, and which tasks are marked
+-- PERSISTENT RESERVE OUT: only one that is accepted changes the world: the registrations and the reservation, what others are told, and which tasks are marked; what it keeps is saved, so no doubts are left
 abbrev pub by_verdict : World → World → Verdict → Answer
 by_verdict w next Good = answer next (good [])
 by_verdict w next Conflict = answer w conflict
@@ -207,7 +206,7 @@ by_verdict w next (Bad c) = answer w (checking c)
 
 abbrev pub reserve_out : World → Nexus → ℕ → Acted → Answer
 reserve_out w n action a =
-    by_verdict w (record w { standing = a.standing; attentions = told n a w.attentions; task = marked action a.removed w.task }) a.verdict
+    by_verdict w (record w { standing = a.standing; attentions = told n a w.attentions; task = marked action a.removed w.task; doubts = [] }) a.verdict
 
 abbrev pub out_request : ℕ → ℕ → ℕ → OutList → acts.ReserveOut
 out_request action scope kind l =

@@ -31,7 +31,7 @@ abbrev pub medium : Blocks
 medium = record { count = 2048; tells = true; at = λ lba. None }
 
 abbrev pub nobody : World
-nobody = opened medium Nothing
+nobody = opened medium true Nothing
 
 abbrev pub both : World
 both = record nobody { standing = record nobody.standing { pairs = pair a 0x90010001 ∷ pair b 0x90010002 ∷ [] } }

@@ -7,6 +7,7 @@ use Rattle.pr_model.specs.Keeping.{Kept}
 use Rattle.pr_model.specs.Worlds.{Blocks, World, opened, set_at, is_known}
 use Rattle.pr_model.specs.Entries.{Act, Login, Command, Step, Logout, Power, Out, Login_code, Left, Restored, Fault, Entry, History}
 use Rattle.pr_model.specs.Commands.{answered}
+use Rattle.pr_model.specs.Saving.{settled, tells_failure, MayAnswer, MayRestore}
 use Rattle.pr_model.specs.Steps.{MayStepIn, stepped_in}
 
 -- the first refusal of a login that applies: 4 version, 2 port, 1 in use, 3 full; or 0, accepted
@@ -30,10 +31,10 @@ logged_out w n = record w { owner = set_at w.owner n None; task = set_at w.task 
 -- the world after an act with its outcome
 abbrev pub moved_by : World → ℕ → Nexus → Act → Out → World
 moved_by w who n (Login version) out = if login_code w version n == 0 then logged_in w who n else w
-moved_by w who n (Command lun cdb data_out) out = (answered w n lun cdb data_out).world
+moved_by w who n (Command lun cdb data_out) out = settled w (answered w n lun cdb data_out) out
 moved_by w who n (Step block) out = stepped_in w n (w.task n) block out
 moved_by w who n Logout out = logged_out w n
-moved_by w who n Power (Restored value) = opened w.medium value
+moved_by w who n Power (Restored value) = opened w.medium w.file_tells value
 moved_by w who n Power _ = w
 
 abbrev pub moved : World → Entry → World
@@ -43,14 +44,14 @@ moved w e = moved_by w e.who e.nexus e.act e.out
 abbrev pub Has : World → ℕ → Nexus → Type 0
 Has w who n = w.owner n ≡ Some who
 
--- which outcomes an act may have; power-ups aren't legal yet
+-- which outcomes an act may have
 abbrev pub MayEnd : World → ℕ → Nexus → Act → Out → Type 0
 MayEnd w who n (Login version) out = out ≡ Login_code (login_code w version n)
 MayEnd w who n (Command lun cdb data_out) out =
-    Has w who n × (w.task n ≡ None) × (out ≡ (answered w n lun cdb data_out).out)
+    Has w who n × (w.task n ≡ None) × MayAnswer w (answered w n lun cdb data_out) out
 MayEnd w who n (Step block) out = Has w who n × MayStepIn w.medium (w.task n) block out
 MayEnd w who n Logout out = Has w who n × (out ≡ Left)
-MayEnd w who n Power out = ⊥
+MayEnd w who n Power out = MayRestore w out
 
 abbrev pub MayFollow : World → Entry → Type 0
 MayFollow w e = MayEnd w e.who e.nexus e.act e.out
@@ -63,13 +64,9 @@ abbrev pub IsLegalFrom : World → History → Type 0
 IsLegalFrom w [] = Unit {0}
 IsLegalFrom w (e ∷ es) = MayFollow w e × IsLegalFrom (moved w e) es
 
--- legal from the opening, over a medium, with what was kept
-abbrev pub IsLegal : Blocks → Kept → History → Type 0
-IsLegal medium kept h = IsLegalFrom (opened medium kept) h
-
--- legal over every medium of so many blocks, whatever stands on it
-abbrev pub IsLegalOver : ℕ → Kept → History → Type 0
-IsLegalOver count kept h = (medium : Blocks) → medium.count ≡ count → IsLegal medium kept h
+-- legal from the opening, over a medium and a file, with what was kept
+abbrev pub IsLegal : Blocks → Bool → Kept → History → Type 0
+IsLegal medium file_tells kept h = IsLegalFrom (opened medium file_tells kept) h
 
 -- what stands on a medium is what it tells of its blocks, wherever that is known; of one that tells nothing a read may give anything
 abbrev pub AreBlocksOf : Option (ℕ → List ℕ) → Blocks → Type 0
@@ -77,8 +74,8 @@ AreBlocksOf None m = m.tells ≡ false
 AreBlocksOf (Some held) m = (lba : ℕ) (bytes : List ℕ) → m.at lba ≡ Some bytes → held lba ≡ bytes
 
 -- legal over every medium of so many blocks on which stands what is told of it
-abbrev pub IsLegalOn : ℕ → Option (ℕ → List ℕ) → Kept → History → Type 0
-IsLegalOn count held kept h = (medium : Blocks) → medium.count ≡ count → AreBlocksOf held medium → IsLegal medium kept h
+abbrev pub IsLegalOn : ℕ → Option (ℕ → List ℕ) → Bool → Kept → History → Type 0
+IsLegalOn count held file_tells kept h = (medium : Blocks) → medium.count ≡ count → AreBlocksOf held medium → IsLegal medium file_tells kept h
 
 -- how many of the entries are faults of the medium
 abbrev pub faults_by : Out → ℕ
@@ -88,3 +85,11 @@ faults_by _ = 0
 abbrev pub faults_in : History → ℕ
 faults_in [] = 0
 faults_in (e ∷ es) = faults_by e.out + faults_in es
+
+-- and how many are commands whose save failed
+abbrev pub failures_by : Out → ℕ
+failures_by out = if tells_failure out then 1 else 0
+
+abbrev pub failures_in : History → ℕ
+failures_in [] = 0
+failures_in (e ∷ es) = failures_by e.out + failures_in es

@@ -1,5 +1,5 @@
 -- What APTPL preserves over a power loss, and whether two such values are one (SPC-4, preserving persistent reservations).
-use Rattle.std.specs.Prelude.{ℕ, ◌==◌, ◌&&◌, not, Bool, true, false, List, [], ◌∷◌, length, Option, Some, None, if◌then◌else◌}
+use Rattle.std.specs.Prelude.{◌≡◌, ◌⊎◌, ℕ, ◌==◌, ◌&&◌, not, Bool, true, false, List, [], ◌∷◌, length, Option, Some, None, if◌then◌else◌}
 use Rattle.pr_words.specs.declared.nexus.Nexus.{Nexus}
 use Rattle.pr_words.specs.declared.nexus.Pair.{Pair}
 use Rattle.pr_words.specs.declared.reservation.Reservation.{Reservation}
@@ -46,3 +46,18 @@ abbrev pub keeps_by : Bool → Bool → Bool → Bool → Bool
 keeps_by true true pairs reservation = not (pairs && reservation)
 keeps_by false false pairs reservation = false
 keeps_by _ _ pairs reservation = true
+
+-- a value is one of these
+abbrev pub IsIn : List Kept → Kept → Type 0
+IsIn [] k = ⊥
+IsIn (x ∷ xs) k = (x ≡ k) ⊎ IsIn xs k
+
+-- the same values in the same order
+abbrev pub same_kepts : List Kept → List Kept → Bool
+same_kepts [] [] = true
+same_kepts (k ∷ ks) (l ∷ ls) = same_kept k l && same_kepts ks ls
+same_kepts _ _ = false
+
+abbrev pub is_empty : List Kept → Bool
+is_empty [] = true
+is_empty (k ∷ ks) = false

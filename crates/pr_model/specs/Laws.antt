@@ -1,5 +1,5 @@
 -- Laws of the definitions.
-use Rattle.std.specs.Prelude.{◌≡◌, ◌↔◌, ℕ, ◌≤◌, ◌⊎◌, true, false, List, [], ◌∷◌, ◌++◌, length, Some, None}
+use Rattle.std.specs.Prelude.{◌≡◌, ◌↔◌, ℕ, ◌≤◌, ◌⊎◌, ◌&&◌, not, true, false, List, [], ◌∷◌, ◌++◌, length, Some, None}
 use Rattle.pr_words.specs.declared.nexus.Nexus.{Nexus}
 use Rattle.pr_words.specs.declared.code.Status.TheVariants as status
 use Rattle.pr_words.specs.declared.reservation.Kind.{Kind}
@@ -11,9 +11,12 @@ use Rattle.pr_grammar.specs.Standings.{Standing, is_holder, is_registered}
 use Rattle.pr_model.specs.Conflicts.{is_forbidden}
 use Rattle.pr_model.specs.Registrants.{IsSound, IsWellFormed}
 use Rattle.pr_model.specs.Limits.{HELD, LIMIT}
-use Rattle.pr_model.specs.Worlds.{World}
+use Rattle.pr_model.specs.Keeping.{Kept, kept, same_kept, is_empty}
+use Rattle.pr_model.specs.Acts.{Acted, Good}
+use Rattle.pr_model.specs.Worlds.{World, restored}
 use Rattle.pr_model.specs.Entries.{Act, Command, Step, History, Out, Login_code, Ended, Started, Wrote, Read, Done, Aborted, Fault, Left, Restored, Entry, entry}
-use Rattle.pr_model.specs.Commands.{attention_check, answered}
+use Rattle.pr_model.specs.Commands.{attention_check, answered, checking, reserve_out}
+use Rattle.pr_model.specs.Saving.{asks_to_save, settled, target_failure}
 use Rattle.pr_model.specs.Histories.{Has, MayFollow, moved, after, IsLegalFrom}
 use Rattle.pr_model.specs.Fencing.{Began, WasFenced, IsFenced}
 use Rattle.pr_model.specs.Lanes.{Lane, arrived}
@@ -46,12 +49,13 @@ RefusalsChangeLittle =
     → ((answered w n lun cdb sent).world ≡ w)
     ⊎ (attention_check w n (operation_code cdb) (w.attentions n) ≡ Some (answered w n lun cdb sent))
 
--- of a command of a nexus that is logged in and has no task there is exactly one outcome
+-- of a command of a nexus that is logged in and has no task there is exactly one outcome, but that where it asks for a save this may fail
 abbrev pub HasOneOutcome : Type 0
 HasOneOutcome =
     (w : World) (who : ℕ) (n : Nexus) (lun : ℕ) (cdb sent : List ℕ) → Has w who n → w.task n ≡ None
     → (out : Out) × MayFollow w (entry who n (Command lun cdb sent) out)
-    × ((other : Out) → MayFollow w (entry who n (Command lun cdb sent) other) → other ≡ out)
+    × ((other : Out) → MayFollow w (entry who n (Command lun cdb sent) other)
+    → (other ≡ out) ⊎ ((asks_to_save w (answered w n lun cdb sent) ≡ true) × (other ≡ checking target_failure)))
 
 -- no entry changes how many blocks the medium has
 abbrev pub KeepsSize : Type 0
@@ -87,3 +91,18 @@ abbrev pub OnlyStepsMove : Type 0
 OnlyStepsMove =
     (w : World) (who : ℕ) (n : Nexus) (act : Act) (out : Out) → (((sent : List ℕ) → act ≡ Step sent → ⊥))
     → (moved w (entry who n act out)).medium ≡ w.medium
+
+-- a command that ends as it is answered leaves that world
+abbrev pub AnswersSettle : Type 0
+AnswersSettle =
+    (w : World) (n : Nexus) (lun : ℕ) (cdb sent : List ℕ) → settled w (answered w n lun cdb sent) (answered w n lun cdb sent).out ≡ (answered w n lun cdb sent).world
+
+-- a PERSISTENT RESERVE OUT that is accepted asks for a save just where it changes what is kept, or there are doubts
+abbrev pub AcceptedAreSaved : Type 0
+AcceptedAreSaved =
+    (w : World) (n : Nexus) (action : ℕ) (a : Acted) → a.verdict ≡ Good
+    → asks_to_save w (reserve_out w n action a) ≡ not (same_kept (kept w.standing) (kept a.standing) && is_empty w.doubts)
+
+-- what a power-up restored is what is kept
+abbrev pub RestoredIsKept : Type 0
+RestoredIsKept = (k : Kept) → kept (restored k) ≡ k

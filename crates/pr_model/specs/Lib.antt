@@ -12,7 +12,9 @@ pub mod Tasks
 pub mod Entries
 pub mod Steps
 pub mod Commands
+pub mod Saving
 pub mod Histories
+pub mod Stamps
 pub mod Lanes
 pub mod Runs
 pub mod Sessions

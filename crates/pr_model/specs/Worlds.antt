@@ -25,9 +25,10 @@ pub record Task : Type 0 where
   pub done : ℕ
   pub aborted : Bool
 
--- the medium's blocks; the registrations and the reservation; the known nexuses in the order in which they became known; an owner is the number of the lane or pass that has a nexus logged in; doubts are what the file may hold instead of what is kept
+-- the medium's blocks; whether a read of the registrations' file is known to give what it holds; the registrations and the reservation; the known nexuses in the order in which they became known; an owner is the number of the lane or pass that has a nexus logged in; doubts are what the file may hold instead of what is kept
 pub record World : Type 0 where
   pub medium : Blocks
+  pub file_tells : Bool
   pub standing : Standing
   pub known : List Nexus
   pub attentions : Nexus → List Code
@@ -47,11 +48,12 @@ abbrev pub restored : Kept → Standing
 restored Nothing = record { pairs = []; reservation = Free; generation = 0; preserve = false }
 restored (Some_kept pairs reservation) = record { pairs = pairs; reservation = reservation; generation = 0; preserve = true }
 
--- the world after a power-up, over a medium: nobody is logged in, and each nexus has the attention of the power-up (SAM-5, power on)
-abbrev pub opened : Blocks → Kept → World
-opened medium kept =
+-- the world after a power-up, over a medium and a file: nobody is logged in, and each nexus has the attention of the power-up (SAM-5, power on)
+abbrev pub opened : Blocks → Bool → Kept → World
+opened medium file_tells kept =
     record {
       medium = medium;
+      file_tells = file_tells;
       standing = restored kept;
       known = map (λ (p : Pair). p.nexus) (restored kept).pairs;
       attentions = λ _. powered_on ∷ [];

@@ -16,7 +16,7 @@ ghost use Rattle.pr_model.specs.Attentions.{is_attention};
 ghost use Rattle.pr_model.specs.Examples.{Transfers, Conflicts, Marks, Steps, Replies};
 ghost use Rattle.pr_model.specs.BlockLaws.{SparedStay, LastDecides};
 ghost use Rattle.pr_model.specs.Sessions.{TurnsJoin};
-ghost use Rattle.pr_model.specs.Laws.{AbortedIsFenced, BytesWait, FreePass, HasOneOutcome, HoldersPass, KeepsSize, LegalIsFenced, OnlyStepsMove, RefusalsChangeLittle, RegistrantsPass};
+ghost use Rattle.pr_model.specs.Laws.{AbortedIsFenced, AcceptedAreSaved, AnswersSettle, BytesWait, FreePass, HasOneOutcome, HoldersPass, KeepsSize, LegalIsFenced, OnlyStepsMove, RefusalsChangeLittle, RegistrantsPass, RestoredIsKept};
 ghost use Rattle.pr_model.specs.Keeping.{Kept, kept, same_kept, keeps_by, looks_same, same_reservation};
 
 /// Of each PREEMPT exactly one case applies, and it has exactly one answer, which `preempt` is.
@@ -95,9 +95,18 @@ pub fn a_refused_command_changes_little()
     ensures { RefusalsChangeLittle }
 {}
 
-/// Of a command there is exactly one outcome.
+/// Of a command there is exactly one outcome, but that its save may fail. A command that ends as it
+/// is answered leaves that world.
 pub fn a_command_has_one_outcome()
-    ensures { HasOneOutcome }
+    ensures outcome { HasOneOutcome }
+    ensures world { AnswersSettle }
+{}
+
+/// A PERSISTENT RESERVE OUT that is accepted is saved where it changes what is kept or there are
+/// doubts, and a power-up restores what is kept.
+pub fn what_is_saved_is_restored()
+    ensures saved { AcceptedAreSaved }
+    ensures restored { RestoredIsKept }
 {}
 
 /// No entry changes how many blocks the medium has.

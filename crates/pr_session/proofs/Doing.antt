@@ -1,12 +1,12 @@
 -- Acts that were asked for and that a core did.
-use Rattle.std.proofs.Common.{◌≡◌, ℕ, ◌+◌, ◌-◌, ◌*◌, ◌≤◌, ◌<◌, min, List, [], ◌∷◌, ◌++◌, length, take, drop, slice_range, Bool, true, false, Option, Some, None, refl, sym, ap, ◌∙◌, subst, arith, eqb}
+use Rattle.std.proofs.Common.{◌≡◌, ℕ, ◌+◌, ◌-◌, ◌*◌, ◌≤◌, ◌<◌, List, [], ◌∷◌, ◌++◌, length, take, drop, slice_range, Bool, true, false, Option, Some, None, refl, sym, ap, ◌∙◌, subst, arith, eqb}
 use Rattle.std.specs.Prelude.{if◌then◌else◌}
 use Rattle.std.proofs.lemmas.Bool.{eqb-true}
 use Rattle.std.proofs.lemmas.List.{length-take, length-drop, length-append}
 use Rattle.pr_words.specs.declared.nexus.Nexus.{Nexus}
 use Rattle.pr_words.specs.declared.task.Way.{Way}
 use Rattle.pr_words.specs.declared.task.Way.TheVariants as ways
-use Rattle.pr_words.specs.declared.limits.TheConstants.{BLOCK, COMMAND_HEAD, DATA, HELD}
+use Rattle.pr_words.specs.declared.limits.TheConstants.{HELD}
 use Rattle.pr_model.specs.Entries as entries
 use Rattle.pr_model.specs.Entries.{entry}
 use Rattle.pr_model.specs.Lanes as lanes
@@ -29,11 +29,10 @@ use Rattle.pr_session.specs.declared.state.Rejection.{Rejection}
 use Rattle.pr_session.specs.declared.job.Job.{Job}
 use Rattle.pr_session.specs.Places.{data_in, block_from}
 use Rattle.pr_session.specs.Jobs.{job_of, begun_by, block_place, FitsStep}
-use Rattle.pr_session.specs.Asking.{next_by}
 use Rattle.pr_session.specs.Coming.{IsIdleIn, HasCome, RunsTask, Agrees}
 use Rattle.pr_session.specs.Driving.{Does, left_by, left_of}
 use Rattle.pr_session.proofs.Blocks.{length_between, same_between}
-use Rattle.pr_session.proofs.Jobs.{place_of_write, place_of_read, carries_block}
+use Rattle.pr_session.proofs.Jobs.{place_of_read, carries_block}
 
 login_agrees : {M D : Type 0} {gm : media.Ghosts M} {gd : disks.Ghosts D} (who : ℕ) (new : Core M D gm gd) (n : Nexus) (accepted : Bool) → (accepted ≡ true → IsIdleIn new who n) → Agrees (if accepted then lanes.In n else lanes.Fresh) who new
 login_agrees who new n true owns = owns refl

@@ -7,10 +7,12 @@ use Rattle.pr_model.specs.Entries as entries
 use Rattle.pr_model.specs.Entries.{entry}
 use Rattle.pr_model.specs.Lanes as lanes
 use Rattle.pr_model.specs.Lanes.{Lane, Phase, Turn, Turned, Idle, Silent, Asks, turn}
+use Rattle.pr_model.specs.Runs.{closing}
 use Rattle.pr_io.specs.declared.outside.Medium as media
 use Rattle.pr_io.specs.declared.outside.Disk as disks
 use Rattle.pr_core.specs.declared.target.Core.{Core}
 use Rattle.pr_core.specs.View.{Extends, owner_of}
+use Rattle.pr_core.proofs.Entering.{extends_none}
 use Rattle.pr_link.specs.declared.deframer.Deframer.{Deframer}
 use Rattle.pr_link.specs.Deframer.{held_of, place_of}
 use Rattle.pr_session.specs.declared.act.Act.{Act}
@@ -20,14 +22,15 @@ use Rattle.pr_session.specs.declared.act.Want.TheVariants as want
 use Rattle.pr_session.specs.declared.asked.Asked.{Asked}
 use Rattle.pr_session.specs.declared.asked.Asked.TheVariants.{Login, Command, Step, Logout, Reject}
 use Rattle.pr_session.specs.declared.state.State.{State}
+use Rattle.pr_session.specs.declared.state.State.TheVariants as states
 use Rattle.pr_session.specs.declared.session.Session.{Session}
 use Rattle.pr_session.specs.Jobs.{job_of}
-use Rattle.pr_session.specs.Acts.{act_by, outcome_by, Fits}
+use Rattle.pr_session.specs.Acts.{outcome_by, Fits}
 use Rattle.pr_session.specs.Coming.{IsIdleIn, RunsTask, Agrees, IsReady}
 use Rattle.pr_session.specs.Asking.{nexus_in, act_in, next_by}
-use Rattle.pr_session.specs.States.{asked_in, next_for}
+use Rattle.pr_session.specs.States.{asked_in, next_for, nexus_at, phase_of, IsSettledIn}
 use Rattle.pr_session.specs.Sessions.{HasTurned, next_of, work_of, lane_of, reply_of}
-use Rattle.pr_session.specs.Turning.{IsFor, Begins, Awaits, AwaitsAt}
+use Rattle.pr_session.specs.Turning.{IsFor, Begins, AwaitsAt}
 use Rattle.pr_session.specs.Driving.{Does, Follows, IsReadyIn, GoesOn, LeavesLess, left_by, left_of}
 
 never_awaits : (p : Phase) (f : Front) (n : Nexus) (a : Act) → AwaitsAt p f (want.Act n a) → ⊥
@@ -139,6 +142,28 @@ calm l w s next b none = by l.phase b
     by (lanes.In m) b = tt
     by lanes.Dead b = tt
     by (lanes.Busy m j) b = absurd (none (nexus_in b.what) (act_in b.what) b.want)
+
+-- and its turn makes no entry
+pub follows_calm : {M D : Type 0} {gm : media.Ghosts M} {gd : disks.Ghosts D} (who : ℕ) (c : Core M D gm gd) (l : Lane) (t : Turn) (w : Want) (s : Session) → Begins l t w s → ((n : Nexus) (a : Act) → w ≡ want.Act n a → ⊥) → Follows who c l t c (lane_of s) (reply_of s)
+follows_calm who c l Idle w s b none = record { entries = []; makes = (refl, b.1.reply, b.1.lane); extends = extends_none c }
+follows_calm who c l (Silent next) w s b none = record { entries = []; makes = (refl, b.1.reply, b.1.lane); extends = extends_none c }
+follows_calm who c l (Asks n a next) w s b none = absurd (none (nexus_in b.what) (act_in b.what) b.want)
+
+-- nor does a connection that is closed where nobody is logged in
+pub closes_calm : {M D : Type 0} {gm : media.Ghosts M} {gd : disks.Ghosts D} (who : ℕ) (c : Core M D gm gd) (s : State) (work : List ℕ) → nexus_at s ≡ None → Extends c c (closing who (phase_of s work))
+closes_calm who c states.Fresh work none = extends_none c
+closes_calm who c (states.In n) work none = absurd cc
+closes_calm who c (states.Busy n j) work none = absurd cc
+closes_calm who c (states.Dead r) work none = extends_none c
+closes_calm who c (states.Asking a) work none = extends_none c
+
+-- and where somebody is, that one is logged out
+pub closes_out : {M D : Type 0} {gm : media.Ghosts M} {gd : disks.Ghosts D} (who : ℕ) (old new : Core M D gm gd) (s : State) (work : List ℕ) (n : Nexus) → IsSettledIn s → nexus_at s ≡ Some n → Extends old new (entry who n entries.Logout entries.Left ∷ []) → Extends old new (closing who (phase_of s work))
+closes_out who old new states.Fresh work n settled is made = absurd cc
+closes_out who old new (states.In m) work n settled is made = let same : m ≡ n = cc in subst (λ (k : Nexus). Extends old new (entry who k entries.Logout entries.Left ∷ [])) (sym same) made
+closes_out who old new (states.Busy m j) work n settled is made = let same : m ≡ n = cc in subst (λ (k : Nexus). Extends old new (entry who k entries.Logout entries.Left ∷ [])) (sym same) made
+closes_out who old new (states.Dead r) work n settled is made = absurd cc
+closes_out who old new (states.Asking a) work n settled is made = absurd cc
 
 -- an outcome that a session is told is one that its act can have
 pub answers_fit : {M D : Type 0} {gm : media.Ghosts M} {gd : disks.Ghosts D} (who : ℕ) (old new : Core M D gm gd) (l : Lane) (t : Turn) (n : Nexus) (a : Act) (s1 s2 : Session) (result : Out)

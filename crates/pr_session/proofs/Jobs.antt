@@ -1,5 +1,5 @@
 -- Tasks as a session keeps them.
-use Rattle.std.proofs.Common.{◌≡◌, ℕ, ◌+◌, ◌-◌, ◌*◌, ◌≤◌, ◌<◌, min, List, [], ◌++◌, length, take, drop, slice_range, refl, sym, ap, ◌∙◌, subst, arith}
+use Rattle.std.proofs.Common.{◌≡◌, ℕ, ◌+◌, ◌-◌, ◌≤◌, min, List, ◌++◌, length, take, drop, slice_range, refl, sym, ap, ◌∙◌, arith}
 use Rattle.pr_words.specs.declared.task.Way.{Way}
 use Rattle.pr_words.specs.declared.task.Way.TheVariants as ways
 use Rattle.pr_words.specs.declared.limits.TheConstants.{BLOCK, COMMAND_HEAD, DATA, HELD}
@@ -9,7 +9,7 @@ use Rattle.pr_model.specs.Lanes.{carried_by, read_by, with_bytes}
 use Rattle.pr_session.specs.declared.job.Job.{Job}
 use Rattle.pr_session.specs.Places.{data_in, block_from}
 use Rattle.pr_session.specs.Jobs.{job_of, begun_by, first_stop, next_place, block_place, data_in_by}
-use Rattle.pr_session.proofs.Blocks.{first_between, rest_between, more_between, length_between}
+use Rattle.pr_session.proofs.Blocks.{first_between, rest_between, more_between}
 
 begun_bytes : (way : Way) (sent : ℕ) (work : List ℕ) → slice_range work COMMAND_HEAD (first_stop way sent) ≡ lanes.first_bytes way (take sent (data_in work))
 begun_bytes ways.Read sent work = refl

@@ -1,5 +1,5 @@
 -- Steps after which a task goes on.
-use Rattle.std.proofs.Common.{◌≡◌, ℕ, ◌+◌, List, [], ◌++◌, length, drop, sym, subst}
+use Rattle.std.proofs.Common.{◌≡◌, ℕ, ◌+◌, List, [], length, sym, subst}
 use Rattle.pr_words.specs.declared.nexus.Nexus.{Nexus}
 use Rattle.pr_words.specs.declared.limits.TheConstants.{BLOCK, HELD}
 use Rattle.pr_model.specs.Lanes as lanes
@@ -9,8 +9,7 @@ use Rattle.pr_tasks.specs.declared.step_out.StepOut.TheVariants.{Wrote, Read}
 use Rattle.pr_core.specs.Outs.{step_out}
 use Rattle.pr_session.specs.declared.job.Job.{Job}
 use Rattle.pr_session.specs.declared.session.Session.{Session}
-use Rattle.pr_session.specs.Places.{block_from}
-use Rattle.pr_session.specs.Jobs.{job_of, block_in, block_place, FitsStep}
+use Rattle.pr_session.specs.Jobs.{job_of, block_in, FitsStep}
 use Rattle.pr_session.specs.Sessions.{HasTurned}
 use Rattle.pr_session.proofs.Jobs.{written_job, read_job}
 

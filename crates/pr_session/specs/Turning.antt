@@ -2,7 +2,7 @@
 use Rattle.std.specs.Prelude.{◌≡◌, ℕ, ◌≤◌, List, [], Some}
 use Rattle.pr_words.specs.declared.nexus.Nexus.{Nexus}
 use Rattle.pr_words.specs.declared.nexus.Side.TheVariants.{Target}
-use Rattle.pr_grammar.specs.Frames.{Front, Lacking, Broken, Whole, front}
+use Rattle.pr_grammar.specs.Frames.{Front, Lacking, front}
 use Rattle.pr_model.specs.Entries.{Out}
 use Rattle.pr_model.specs.Entries as entries
 use Rattle.pr_model.specs.Lanes.{Lane, Phase, Turn, Turned, turned, Idle, Silent, Asks}

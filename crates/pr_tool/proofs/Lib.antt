@@ -7,3 +7,4 @@ mod Stopping
 pub mod Causes
 pub mod LineTexts
 pub mod Showings
+pub mod Serving

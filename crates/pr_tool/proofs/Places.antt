@@ -1,10 +1,9 @@
 -- Lanes in their places.
-use Rattle.std.proofs.Common.{◌≡◌, ℕ, zero, suc, ◌+◌, ◌<◌, List, [], ◌∷◌, ◌++◌, length, Option, Some, refl, sym, ap, ◌∙◌, subst, arith, inl, inr}
+use Rattle.std.proofs.Common.{◌≡◌, ℕ, zero, suc, ◌+◌, ◌<◌, List, [], ◌∷◌, ◌++◌, length, Some, refl, sym, ap, ◌∙◌, subst, arith, inl, inr}
 use Rattle.std.specs.Prelude.{slice_get, slice_set, slice_index_or, option_map, replicate}
 use Rattle.std.proofs.lemmas.Option.{slice_get_within, slice_get-map, slice_get-get_or, get_or_from_slice_get}
 use Rattle.std.proofs.lemmas.List.{map-set, map-append, length-map, length-replicate, get_or-replicate, replicate-append-replicate}
 use Rattle.std.proofs.lemmas.Bool.{cases_eq}
-use Rattle.pr_words.specs.declared.nexus.Nexus.{Nexus}
 use Rattle.pr_io.specs.Told.{ToldSink}
 use Rattle.pr_grammar.specs.Schedules.{Record, Arrival, Step_of, Close_of, IsRecord, lane_of}
 use Rattle.pr_model.specs.Lanes.{Lane, Phase, Fresh, In, Busy, Dead, fresh}
@@ -12,7 +11,7 @@ use Rattle.pr_model.specs.Runs.{Deed, ActsOn}
 use Rattle.pr_io.specs.declared.outside.Medium as media
 use Rattle.pr_io.specs.declared.outside.Disk as disks
 use Rattle.pr_core.specs.declared.target.Core.{Core}
-use Rattle.pr_core.specs.View.{owner_of, KeepsOthers}
+use Rattle.pr_core.specs.View.{KeepsOthers}
 use Rattle.pr_tool.specs.declared.lane.Lane as session
 use Rattle.pr_tool.specs.Lanes.{lanes_of}
 use Rattle.pr_tool.specs.Lanes as sess

@@ -7,7 +7,7 @@ use Rattle.pr_io.proofs.Pieces.{put_more, put_nothing}
 use Rattle.pr_grammar.specs.Outputs.{output_of}
 use Rattle.pr_grammar.specs.Schedules.{Arrival}
 use Rattle.pr_model.specs.Limits.{HELD}
-use Rattle.pr_model.specs.Lanes.{Lane, lane, Phase, Fresh, In, Busy, Dead, AwaitsFrame, fresh, arrived, turn}
+use Rattle.pr_model.specs.Lanes.{Lane, Phase, Fresh, In, Busy, Dead, AwaitsFrame, fresh, arrived, turn}
 use Rattle.pr_model.specs.Runs.{Deed, deed, TakesTurn, TakesTurns, CutsTurn, RunsRecord, CutsRecord, closing, Closes}
 use Rattle.pr_model.proofs.Overflow.{MadeRoom, Has_died, Has_room, room_made, takes_more, turns-append, arrived-append, arrived-nil}
 use Rattle.pr_io.specs.declared.outside.Medium as media

@@ -356,6 +356,8 @@ shows_decide exits.BadWords budget (Some all) rb wa wb shows cause = absurd show
 shows_decide exits.ReadFault budget (Some all) rb wa wb shows cause = (λ s. inl tt, λ l. inl tt)
 shows_decide exits.WriteFault budget (Some all) rb wa wb shows cause = (λ s. inl tt, λ l. inl tt)
 shows_decide (exits.BadSchedule place) budget (Some all) rb wa wb shows cause = absurd shows
+shows_decide (exits.BadFile place) budget (Some all) rb wa wb shows cause = absurd shows
+shows_decide exits.DiskFault budget (Some all) rb wa wb shows cause = absurd shows
 shows_decide exits.NoMemory budget (Some all) rb wa wb shows cause = (λ s. inl tt, λ l. inl tt)
 shows_decide exits.TooLong budget (Some all) rb wa wb shows cause = (λ s. absurd (not_both budget all s cause), λ l. inr refl)
 
@@ -387,7 +389,9 @@ unfailed exits.BadWords n other = refl
 unfailed exits.ReadFault n other = refl
 unfailed exits.WriteFault n other = absurd (other refl)
 unfailed (exits.BadSchedule place) n other = refl
+unfailed (exits.BadFile place) n other = refl
 unfailed exits.NoMemory n other = refl
+unfailed exits.DiskFault n other = refl
 unfailed exits.TooLong n other = refl
 
 -- how often the streams have failed by then
@@ -412,7 +416,9 @@ calm_counted exits.BadWords before now other is = is
 calm_counted exits.ReadFault before now other is = absurd (other refl)
 calm_counted exits.WriteFault before now other is = inl is
 calm_counted (exits.BadSchedule place) before now other is = is
+calm_counted (exits.BadFile place) before now other is = is
 calm_counted exits.NoMemory before now other is = is
+calm_counted exits.DiskFault before now other is = is
 calm_counted exits.TooLong before now other is = is
 
 pub calm_counted_by : (o : Option Exit) (before now : ℕ) → (o ≡ Some exits.ReadFault → ⊥) → now ≡ before → CountsSourceBy o before now

@@ -6,25 +6,27 @@ use Rattle.std.proofs.lemmas.List.Concat.{flat_map-append, flat_map-cons}
 use Rattle.std.proofs.lemmas.List.Elements.{All-nil, All-append, All-cons}
 use Rattle.pr_io.specs.Streams.{Took, Put}
 use Rattle.pr_io.specs.Causes.{next_fault}
-use Rattle.pr_io.specs.Told.{ToldMedium, ToldSink, ToldStreams, Told, told_medium, NoneFailed}
+use Rattle.pr_io.specs.Images.{Story, Stays}
+use Rattle.pr_io.specs.Told.{ToldMedium, ToldSink, ToldStreams, Told, NoneFailed}
 use Rattle.pr_io.proofs.Pieces.{put_more, took_more, put_nothing, took_nothing}
 use Rattle.pr_grammar.specs.Schedules.{Record, IsRecord, spelled_record}
 use Rattle.pr_grammar.proofs.Records.{not_whole_and_broken, not_whole_and_long, not_broken_and_long, broken_once}
-use Rattle.pr_model.specs.Keeping.{Nothing}
-use Rattle.pr_model.specs.Worlds.{opened}
 use Rattle.pr_model.specs.Entries.{History}
 use Rattle.pr_model.specs.Lanes.{Lane, fresh}
-use Rattle.pr_model.specs.Runs.{deed, IsRun}
+use Rattle.pr_model.specs.Runs.{Deed, deed, IsRun, IsCutRun}
 use Rattle.pr_model.proofs.RunLaws.{run-append}
-use Rattle.pr_model.proofs.Walk.{legal_is_fenced}
 use Rattle.pr_io.specs.declared.outside.Medium as media
 use Rattle.pr_io.specs.declared.outside.Disk as disks
 use Rattle.pr_core.specs.declared.target.Core.{Core}
-use Rattle.pr_core.specs.View.{Extends, medium_of}
+use Rattle.pr_core.specs.View.{Extends}
 use Rattle.pr_core.proofs.Entering.{extends_none, extends_append}
 use Rattle.pr_tool.specs.Reading.{Stops}
-use Rattle.pr_tool.specs.Exits.{IsOpened, HasSameDevices, IsServedOn, HasRun, RunEnds, Stands, GoesOn, Causes, IsEarlier, Decides}
-use Rattle.pr_tool.specs.Stops.{Did, WasCut, StopsBy, exit_at, exit_of}
+use Rattle.pr_tool.specs.Exits.{IsServedOn, HasRun, RunEnds, Stands, GoesOn, Causes, IsEarlier, IsUnopened, Decides}
+use Rattle.pr_grammar.specs.Files.{file_head, file_layout}
+use Rattle.pr_aptpl.specs.declared.fault.OpenFault.{OpenFault}
+use Rattle.pr_aptpl.specs.declared.fault.OpenFault.TheVariants as faults
+use Rattle.pr_aptpl.specs.Opens.{FailsAt, IsFaultOf}
+use Rattle.pr_tool.specs.Stops.{Did, WasCut, StopsBy, exit_at, exit_of, unopened_of}
 use Rattle.pr_tool.specs.declared.exit.Exit.{Exit}
 use Rattle.pr_tool.specs.declared.exit.Exit.TheVariants as exits
 use Rattle.pr_tool.specs.declared.schedule.End.{End}
@@ -33,20 +35,8 @@ use Rattle.pr_tool.specs.declared.replay.Stop.{Stop}
 use Rattle.pr_tool.specs.declared.replay.Stop.TheVariants as stop
 use Rattle.pr_tool.proofs.Causes.{Carries, carries_all, carries_more, at_place, done_whole, broken_broken, too_long_long}
 
--- what an opened core did, it served over its medium
-served : {M D : Type 0} {gm : media.Ghosts M} {gd : disks.Ghosts D} (start core : Core M D gm gd) (h : History) → IsOpened start → Extends start core h
-    → IsServedOn (told_medium gm (medium_of start)) (told_medium gm (medium_of core)) h
-served start core h opens extends =
-    record {
-      legal = λ m count holds. extends.legal (opened m Nothing) (opens m count holds);
-      fenced = λ m count holds. legal_is_fenced (opened m Nothing) h tt (extends.legal (opened m Nothing) (opens m count holds));
-      holds = λ m count holds. (extends.leads (opened m Nothing) (opens m count holds)).1;
-      blocks = core.size ∙ extends.blocks ∙ sym start.size;
-      faults = extends.counted;
-    }
-
-pub run_first : {M D : Type 0} {gm : media.Ghosts M} {gd : disks.Ghosts D} (lanes budget : ℕ) (c : Core M D gm gd) (a : ToldStreams) (now : List Lane) → IsOpened c → now ≡ replicate lanes fresh → GoesOn lanes budget budget c c a a now
-run_first lanes budget c a now opens is =
+pub run_first : {M D : Type 0} {gm : media.Ghosts M} {gd : disks.Ghosts D} (lanes budget : ℕ) (c : Core M D gm gd) (a : ToldStreams) (now : List Lane) → now ≡ replicate lanes fresh → GoesOn lanes budget budget c c a a now
+run_first lanes budget c a now is =
     record {
       run =
           record {
@@ -59,11 +49,9 @@ run_first lanes budget c a now opens is =
             valid = All-nil (IsRecord lanes);
             within = omega arith;
             puts = put_nothing a.sink.written;
-            served = served c c [] opens (extends_none c);
+            served = extends_none c;
             runs = (refl, is);
           };
-      opens = opens;
-      extends = extends_none c;
       counted = omega arith;
       calm = (refl, refl);
     }
@@ -83,7 +71,7 @@ size_more records r =
 pub run_more : {M D : Type 0} {gm : media.Ghosts M} {gd : disks.Ghosts D} (lanes budget left size : ℕ) (c0 c1 c2 : Core M D gm gd) (a b c : ToldStreams) (before now : List Lane)
     → GoesOn lanes budget left c0 c1 a b before → Did lanes left b c c1 before c2 now size → GoesOn lanes budget (left - size) c0 c2 a c now
 run_more lanes budget left size c0 c1 c2 a b c before now s did =
-    let extends : Extends c0 c2 (s.run.entries ++ did.ran.entries) = extends_append c0 c1 c2 s.run.entries did.ran.entries s.extends did.ran.extends in
+    let extends : Extends c0 c2 (s.run.entries ++ did.ran.entries) = extends_append c0 c1 c2 s.run.entries did.ran.entries s.run.served did.ran.extends in
     let counted : length (flat_map spelled_record (s.run.records ++ did.first ∷ [])) + (left - size) ≡ budget = omega (arith, size_more s.run.records did.first, s.counted, did.counted, did.within) in
     record {
       run =
@@ -97,18 +85,16 @@ run_more lanes budget left size c0 c1 c2 a b c before now s did =
             valid = All-append (IsRecord lanes) s.run.records (did.first ∷ []) s.run.valid (All-cons (IsRecord lanes) did.first [] did.valid (All-nil (IsRecord lanes)));
             within = omega (arith, counted);
             puts = put_more a.sink.written b.sink.written c.sink.written s.run.output did.ran.output s.run.puts did.ran.puts;
-            served = served c0 c2 (s.run.entries ++ did.ran.entries) s.opens extends;
+            served = extends;
             runs = run-append (replicate lanes fresh) s.run.records (deed s.run.entries s.run.output) before did.first (deed did.ran.entries did.ran.output) now s.run.runs did.ran.acts;
           };
-      opens = s.opens;
-      extends = extends;
       counted = counted;
       calm = (did.calm.0 ∙ s.calm.0, did.calm.1 ∙ s.calm.1);
     }
 
 -- one more record that was cut
 run_cut : {M D : Type 0} {gm : media.Ghosts M} {gd : disks.Ghosts D} (lanes budget left : ℕ) (c0 c1 c2 : Core M D gm gd) (a b c : ToldStreams) (before : List Lane)
-    → GoesOn lanes budget left c0 c1 a b before → WasCut lanes left b c c1 before c2 → RunEnds lanes budget (told_medium gm (medium_of c0)) (told_medium gm (medium_of c2)) exits.WriteFault a c
+    → GoesOn lanes budget left c0 c1 a b before → WasCut lanes left b c c1 before c2 → RunEnds (λ h. Extends c0 c2 h) lanes budget exits.WriteFault a c
 run_cut lanes budget left c0 c1 c2 a b c before s did = (
   did.last,
   record {
@@ -121,7 +107,7 @@ run_cut lanes budget left c0 c1 c2 a b c before s did = (
     valid = All-append (IsRecord lanes) s.run.records (did.first ∷ []) s.run.valid (All-cons (IsRecord lanes) did.first [] did.valid (All-nil (IsRecord lanes)));
     within = omega (arith, size_more s.run.records did.first, s.counted, did.within);
     puts = put_more a.sink.written b.sink.written c.sink.written s.run.output did.ran.output s.run.puts did.ran.puts;
-    served = served c0 c2 (s.run.entries ++ did.ran.entries) s.opens (extends_append c0 c1 c2 s.run.entries did.ran.entries s.extends did.ran.extends);
+    served = extends_append c0 c1 c2 s.run.entries did.ran.entries s.run.served did.ran.extends;
     runs = (
       s.run.records,
       did.first,
@@ -138,8 +124,8 @@ run_cut lanes budget left c0 c1 c2 a b c before s did = (
 )
 
 -- a run that stops behind some bytes that are no record
-abbrev with_tail : (lanes budget : ℕ) (old new : ToldMedium) (a b c : ToldStreams) (last : List Lane) (tail : List ℕ) → HasRun IsRun lanes budget old new a b last [] → Took b.source.rest c.source.rest tail → c.sink ≡ b.sink → HasRun IsRun lanes budget old new a c last tail
-with_tail lanes budget old new a b c last tail run took same =
+abbrev with_tail : (Served : History → Type 0) (lanes budget : ℕ) (a b c : ToldStreams) (last : List Lane) (tail : List ℕ) → HasRun IsRun Served lanes budget a b last [] → Took b.source.rest c.source.rest tail → c.sink ≡ b.sink → HasRun IsRun Served lanes budget a c last tail
+with_tail Served lanes budget a b c last tail run took same =
     record {
       records = run.records;
       entries = run.entries;
@@ -156,33 +142,26 @@ with_tail lanes budget old new a b c last tail run took same =
 
 -- where no record was read
 read_stops : {M D : Type 0} {gm : media.Ghosts M} {gd : disks.Ghosts D} (lanes budget left : ℕ) (end : End) (c0 c1 c2 : Core M D gm gd) (place : ℕ) (a b c : ToldStreams) (now : List Lane) → place + left ≡ budget
-    → GoesOn lanes budget left c0 c1 a b now → StopsBy lanes left (stop.Read end) b c c1 now c2 → RunEnds lanes budget (told_medium gm (medium_of c0)) (told_medium gm (medium_of c1)) (exit_at end place) a c
+    → GoesOn lanes budget left c0 c1 a b now → StopsBy lanes left (stop.Read end) b c c1 now c2 → RunEnds (λ h. Extends c0 c1 h) lanes budget (exit_at end place) a c
 read_stops lanes budget left Done c0 c1 c2 place a b c now at s stops =
     let calm : NoneFailed a c = (stops.1 ∙ s.calm.0, ap (λ (k : ToldSink). k.faults) stops.2 ∙ s.calm.1) in
-    (now, with_tail lanes budget _ _ a b c now [] s.run stops.0.0 stops.2, stops.0.1, calm)
+    (now, with_tail (λ h. Extends c0 c1 h) lanes budget a b c now [] s.run stops.0.0 stops.2, stops.0.1, calm)
 read_stops lanes budget left ReadFault c0 c1 c2 place a b c now at s stops =
-    (now, stops.0.0, with_tail lanes budget _ _ a b c now stops.0.0 s.run stops.0.1 stops.2, stops.0.2, omega (arith, s.counted, stops.0.3), (stops.1 ∙ ap next_fault s.calm.0, ap (λ (k : ToldSink). k.faults) stops.2 ∙ s.calm.1))
+    (now, stops.0.0, with_tail (λ h. Extends c0 c1 h) lanes budget a b c now stops.0.0 s.run stops.0.1 stops.2, stops.0.2, omega (arith, s.counted, stops.0.3), (stops.1 ∙ ap next_fault s.calm.0, ap (λ (k : ToldSink). k.faults) stops.2 ∙ s.calm.1))
 read_stops lanes budget left Broken c0 c1 c2 place a b c now at s stops =
     let calm : NoneFailed a c = (stops.1 ∙ s.calm.0, ap (λ (k : ToldSink). k.faults) stops.2 ∙ s.calm.1) in
-    (now, stops.0.0, with_tail lanes budget _ _ a b c now stops.0.0 s.run stops.0.1 stops.2, omega (arith, s.counted, at), omega (arith, at, s.counted, stops.0.3), stops.0.2, stops.0.4, calm)
+    (now, stops.0.0, with_tail (λ h. Extends c0 c1 h) lanes budget a b c now stops.0.0 s.run stops.0.1 stops.2, omega (arith, s.counted, at), omega (arith, at, s.counted, stops.0.3), stops.0.2, stops.0.4, calm)
 read_stops lanes budget left TooLong c0 c1 c2 place a b c now at s stops =
     let calm : NoneFailed a c = (stops.1 ∙ s.calm.0, ap (λ (k : ToldSink). k.faults) stops.2 ∙ s.calm.1) in
-    (now, stops.0.0, stops.0.1, with_tail lanes budget _ _ a b c now (stops.0.0 ++ stops.0.1) s.run stops.0.2 stops.2, stops.0.3, omega (arith, s.counted, stops.0.4), stops.0.5, calm)
+    (now, stops.0.0, stops.0.1, with_tail (λ h. Extends c0 c1 h) lanes budget a b c now (stops.0.0 ++ stops.0.1) s.run stops.0.2 stops.2, stops.0.3, omega (arith, s.counted, stops.0.4), stops.0.5, calm)
 
 -- the place at which a run stops is what is gone of the budget
 pub run_stops : {M D : Type 0} {gm : media.Ghosts M} {gd : disks.Ghosts D} (lanes budget left : ℕ) (s : Stop) (c0 c1 c2 : Core M D gm gd) (place : ℕ) (a b c : ToldStreams) (now : List Lane) → place + left ≡ budget
-    → GoesOn lanes budget left c0 c1 a b now → StopsBy lanes left s b c c1 now c2 → RunEnds lanes budget (told_medium gm (medium_of c0)) (told_medium gm (medium_of c2)) (exit_of s place) a c
+    → GoesOn lanes budget left c0 c1 a b now → StopsBy lanes left s b c c1 now c2 → RunEnds (λ h. Extends c0 c2 h) lanes budget (exit_of s place) a c
 run_stops {M} {D} {gm} {gd} lanes budget left (stop.Read end) c0 c1 c2 place a b c now at s stops =
-    subst (λ (k : Core M D gm gd). RunEnds lanes budget (told_medium gm (medium_of c0)) (told_medium gm (medium_of k)) (exit_at end place) a c) (sym stops.3)
+    subst (λ (k : Core M D gm gd). RunEnds (λ h. Extends c0 k h) lanes budget (exit_at end place) a c) (sym stops.3)
     (read_stops lanes budget left end c0 c1 c2 place a b c now at s stops)
 run_stops lanes budget left stop.Write c0 c1 c2 place a b c now at s stops = run_cut lanes budget left c0 c1 c2 a b c now s stops
-
--- a run that stops is over the medium and the disk that it began with
-pub same_devices : {M D : Type 0} {gm : media.Ghosts M} {gd : disks.Ghosts D} (lanes budget left : ℕ) (s : Stop) (c0 c1 c2 : Core M D gm gd) (a b c : ToldStreams) (now : List Lane)
-    → GoesOn lanes budget left c0 c1 a b now → StopsBy lanes left s b c c1 now c2 → HasSameDevices c0 c2
-same_devices {M} {D} {gm} {gd} lanes budget left (stop.Read end) c0 c1 c2 a b c now s stops =
-    subst (λ (k : Core M D gm gd). HasSameDevices c0 k) (sym stops.3) (s.extends.medium, s.extends.disk)
-same_devices lanes budget left stop.Write c0 c1 c2 a b c now s stops = (stops.ran.extends.medium ∙ s.extends.medium, stops.ran.extends.disk ∙ s.extends.disk)
 
 -- what the rest of a schedule brings, all of it brings, where it is told
 abbrev pub CarriesTold : ℕ → ℕ → ℕ → Option (List ℕ) → Option (List ℕ) → Type 0
@@ -224,34 +203,112 @@ run_causes lanes stop.Write budget left place ra b c c1 c2 now at carries stops 
 pub same_name : {X : Type 0} (a b : X) → Some a ≡ Some b → a ≡ b
 same_name a b is = cc
 
+-- a run whose history was served so, where that says more
+module _ {P Q : History → Type 0} (more : (h : History) → P h → Q h) where
+  abbrev run_serves : (Run : List Lane → List Record → Deed → List Lane → Type 0) (lanes budget : ℕ) (a b : ToldStreams) (last : List Lane) (tail : List ℕ) → HasRun Run P lanes budget a b last tail → HasRun Run Q lanes budget a b last tail
+  run_serves Run lanes budget a b last tail run = record {
+    records = run.records;
+    entries = run.entries;
+    output = run.output;
+    read = run.read;
+    took = run.took;
+    spelling = run.spelling;
+    valid = run.valid;
+    within = run.within;
+    puts = run.puts;
+    served = more run.entries run.served;
+    runs = run.runs;
+  }
+
+  pub ends_serve : (lanes budget : ℕ) (e : Exit) (a b : ToldStreams) → RunEnds P lanes budget e a b → RunEnds Q lanes budget e a b
+  ends_serve lanes budget exits.Done a b ends = (ends.0, run_serves IsRun lanes budget a b ends.0 [] ends.1, ends.2, ends.3)
+  ends_serve lanes budget exits.BadWords a b ends = absurd ends
+  ends_serve lanes budget exits.ReadFault a b ends = (ends.0, ends.1, run_serves IsRun lanes budget a b ends.0 ends.1 ends.2, ends.3, ends.4, ends.5)
+  ends_serve lanes budget exits.WriteFault a b ends = (ends.0, run_serves IsCutRun lanes budget a b ends.0 [] ends.1, ends.2)
+  ends_serve lanes budget (exits.BadSchedule place) a b ends = (ends.0, ends.1, run_serves IsRun lanes budget a b ends.0 ends.1 ends.2, ends.3, ends.4, ends.5, ends.6, ends.7)
+  ends_serve lanes budget (exits.BadFile place) a b ends = absurd ends
+  ends_serve lanes budget exits.NoMemory a b ends = absurd ends
+  ends_serve lanes budget exits.DiskFault a b ends = absurd ends
+  ends_serve lanes budget exits.TooLong a b ends = (ends.0, ends.1, ends.2, run_serves IsRun lanes budget a b ends.0 (ends.1 ++ ends.2) ends.3, ends.4, ends.5, ends.6, ends.7)
+
+-- a run that has begun has a history that was served
+pub ends_served : {P : History → Type 0} (lanes budget : ℕ) (e : Exit) (a b : ToldStreams) → RunEnds P lanes budget e a b → (h : History) × P h
+ends_served lanes budget exits.Done a b ends = (ends.1.entries, ends.1.served)
+ends_served lanes budget exits.BadWords a b ends = absurd ends
+ends_served lanes budget exits.ReadFault a b ends = (ends.2.entries, ends.2.served)
+ends_served lanes budget exits.WriteFault a b ends = (ends.1.entries, ends.1.served)
+ends_served lanes budget (exits.BadSchedule place) a b ends = (ends.2.entries, ends.2.served)
+ends_served lanes budget (exits.BadFile place) a b ends = absurd ends
+ends_served lanes budget exits.NoMemory a b ends = absurd ends
+ends_served lanes budget exits.DiskFault a b ends = absurd ends
+ends_served lanes budget exits.TooLong a b ends = (ends.3.entries, ends.3.served)
+
 -- a run that has begun, among all that stands
-pub ends_stand : (lanes budget : ℕ) (e : Exit) (before after : Told) → RunEnds lanes budget before.medium after.medium e before.streams after.streams → Stands lanes budget e before after
-ends_stand lanes budget exits.Done before after ends = ends
-ends_stand lanes budget exits.BadWords before after ends = absurd ends
-ends_stand lanes budget exits.ReadFault before after ends = ends
-ends_stand lanes budget exits.WriteFault before after ends = ends
-ends_stand lanes budget (exits.BadSchedule place) before after ends = ends
-ends_stand lanes budget exits.NoMemory before after ends = absurd ends
-ends_stand lanes budget exits.TooLong before after ends = ends
+pub ends_stand : (lanes budget : ℕ) (e : Exit) (before after : Told) (s t : Story) → RunEnds (IsServedOn before.medium after.medium before.disk after.disk s t) lanes budget e before.streams after.streams → Stands lanes budget e before after s t
+ends_stand lanes budget exits.Done before after s t ends = ends
+ends_stand lanes budget exits.BadWords before after s t ends = absurd ends
+ends_stand lanes budget exits.ReadFault before after s t ends = ends
+ends_stand lanes budget exits.WriteFault before after s t ends = ends
+ends_stand lanes budget (exits.BadSchedule place) before after s t ends = ends
+ends_stand lanes budget (exits.BadFile place) before after s t ends = absurd ends
+ends_stand lanes budget exits.NoMemory before after s t ends = absurd ends
+ends_stand lanes budget exits.DiskFault before after s t ends = absurd ends
+ends_stand lanes budget exits.TooLong before after s t ends = ends
+
+-- a target that couldn't be opened
+
+told_same : (a b : Told) → a.streams ≡ b.streams → a.medium ≡ b.medium → a.disk.faults ≡ b.disk.faults → a ≡ b
+told_same a b streams medium faults =
+    ap (λ (x : ToldStreams). record { streams = x; medium = a.medium; disk = a.disk }) streams
+    ∙ ap (λ (x : ToldMedium). record { streams = b.streams; medium = x; disk = a.disk }) medium
+    ∙ ap (λ (x : ℕ). record { streams = b.streams; medium = b.medium; disk = record { faults = x } }) faults
+
+pub unopened_stands : (lanes budget : ℕ) (f : OpenFault) (e : Exit) (before after : Told) (s t : Story) → e ≡ unopened_of f → after.streams ≡ before.streams → after.medium ≡ before.medium
+    → IsFaultOf f before.disk.faults after.disk.faults → FailsAt file_head file_layout f s → Stays s t → Stands lanes budget e before after s t
+unopened_stands lanes budget (faults.BadFile place) e before after s t is streams medium fault fails stays =
+    subst (λ (x : Exit). Stands lanes budget x before after s t) (sym is) (told_same after before streams medium fault, stays, fails)
+unopened_stands lanes budget faults.DiskFault e before after s t is streams medium fault fails stays =
+    subst (λ (x : Exit). Stands lanes budget x before after s t) (sym is) ((streams, medium, fault.0), stays)
+unopened_stands lanes budget faults.OutOfMemory e before after s t is streams medium fault fails stays =
+    subst (λ (x : Exit). Stands lanes budget x before after s t) (sym is) (told_same after before streams medium fault, stays)
+
+pub unopened_causes : (lanes budget : ℕ) (f : OpenFault) (e : Exit) (r : Option (List ℕ)) → e ≡ unopened_of f → Causes lanes e budget r
+unopened_causes lanes budget (faults.BadFile place) e r is = subst (λ (x : Exit). Causes lanes x budget r) (sym is) tt
+unopened_causes lanes budget faults.DiskFault e r is = subst (λ (x : Exit). Causes lanes x budget r) (sym is) tt
+unopened_causes lanes budget faults.OutOfMemory e r is = subst (λ (x : Exit). Causes lanes x budget r) (sym is) tt
+
+pub unopened_early : (f : OpenFault) (e : Exit) → e ≡ unopened_of f → IsEarlier e
+unopened_early (faults.BadFile place) e is = subst IsEarlier (sym is) tt
+unopened_early faults.DiskFault e is = subst IsEarlier (sym is) tt
+unopened_early faults.OutOfMemory e is = subst IsEarlier (sym is) tt
+
+pub unopened_begun : (f : OpenFault) (e : Exit) → e ≡ unopened_of f → e ≡ exits.BadWords → ⊥
+unopened_begun (faults.BadFile place) e is words = let clash : exits.BadFile place ≡ exits.BadWords = sym is ∙ words in cc
+unopened_begun faults.DiskFault e is words = let clash : exits.DiskFault ≡ exits.BadWords = sym is ∙ words in cc
+unopened_begun faults.OutOfMemory e is words = let clash : exits.NoMemory ≡ exits.BadWords = sym is ∙ words in cc
 
 -- a run that has begun doesn't end with the exits that come before it
-pub not_words : (lanes budget : ℕ) (old new : ToldMedium) (e : Exit) (before after : ToldStreams) → RunEnds lanes budget old new e before after → e ≡ exits.BadWords → ⊥
-not_words lanes budget old new exits.Done before after ends is = cc
-not_words lanes budget old new exits.BadWords before after ends is = ends
-not_words lanes budget old new exits.ReadFault before after ends is = cc
-not_words lanes budget old new exits.WriteFault before after ends is = cc
-not_words lanes budget old new (exits.BadSchedule place) before after ends is = cc
-not_words lanes budget old new exits.NoMemory before after ends is = cc
-not_words lanes budget old new exits.TooLong before after ends is = cc
+pub not_words : (P : History → Type 0) (lanes budget : ℕ) (e : Exit) (before after : ToldStreams) → RunEnds P lanes budget e before after → e ≡ exits.BadWords → ⊥
+not_words P lanes budget exits.Done before after ends is = cc
+not_words P lanes budget exits.BadWords before after ends is = ends
+not_words P lanes budget exits.ReadFault before after ends is = cc
+not_words P lanes budget exits.WriteFault before after ends is = cc
+not_words P lanes budget (exits.BadSchedule place) before after ends is = cc
+not_words P lanes budget (exits.BadFile place) before after ends is = cc
+not_words P lanes budget exits.NoMemory before after ends is = cc
+not_words P lanes budget exits.DiskFault before after ends is = cc
+not_words P lanes budget exits.TooLong before after ends is = cc
 
-pub not_memory : (lanes budget : ℕ) (old new : ToldMedium) (e : Exit) (before after : ToldStreams) → RunEnds lanes budget old new e before after → e ≡ exits.NoMemory → ⊥
-not_memory lanes budget old new exits.Done before after ends is = cc
-not_memory lanes budget old new exits.BadWords before after ends is = cc
-not_memory lanes budget old new exits.ReadFault before after ends is = cc
-not_memory lanes budget old new exits.WriteFault before after ends is = cc
-not_memory lanes budget old new (exits.BadSchedule place) before after ends is = cc
-not_memory lanes budget old new exits.NoMemory before after ends is = ends
-not_memory lanes budget old new exits.TooLong before after ends is = cc
+pub not_unopened : (P : History → Type 0) (lanes budget : ℕ) (e : Exit) (before after : ToldStreams) → RunEnds P lanes budget e before after → IsUnopened e → ⊥
+not_unopened P lanes budget exits.Done before after ends is = is
+not_unopened P lanes budget exits.BadWords before after ends is = is
+not_unopened P lanes budget exits.ReadFault before after ends is = is
+not_unopened P lanes budget exits.WriteFault before after ends is = is
+not_unopened P lanes budget (exits.BadSchedule place) before after ends is = is
+not_unopened P lanes budget (exits.BadFile place) before after ends is = ends
+not_unopened P lanes budget exits.NoMemory before after ends is = ends
+not_unopened P lanes budget exits.DiskFault before after ends is = ends
+not_unopened P lanes budget exits.TooLong before after ends is = is
 
 -- the causes exclude each other
 pub causes_decide : (lanes : ℕ) (e : Exit) (budget : ℕ) (r : Option (List ℕ)) → 0 < lanes → Causes lanes e budget r → Decides lanes e budget r
@@ -265,7 +322,9 @@ causes_decide lanes (exits.BadSchedule place) budget (Some all) some cause = (
   λ other b. inr (ap exits.BadSchedule (broken_once lanes budget place other all cause b)),
   λ l. absurd (not_broken_and_long lanes budget place all cause l),
 )
+causes_decide lanes (exits.BadFile place) budget (Some all) some cause = (λ w. inl tt, λ other b. inl tt, λ l. inl tt)
 causes_decide lanes exits.NoMemory budget (Some all) some cause = (λ w. inl tt, λ place b. inl tt, λ l. inl tt)
+causes_decide lanes exits.DiskFault budget (Some all) some cause = (λ w. inl tt, λ place b. inl tt, λ l. inl tt)
 causes_decide lanes exits.TooLong budget (Some all) some cause = (λ w. absurd (not_whole_and_long lanes budget all w cause), λ place b. absurd (not_broken_and_long lanes budget place all b cause), λ l. inr refl)
 
 pub early_decides : (lanes : ℕ) (e : Exit) (budget : ℕ) (r : Option (List ℕ)) → IsEarlier e → Decides lanes e budget r

@@ -1,43 +1,51 @@
 -- What a run of a schedule has done, and what its exit says.
-use Rattle.std.specs.Prelude.{◌≡◌, ℕ, ◌+◌, ◌<◌, ◌≤◌, ◌⊎◌, List, [], ◌++◌, length, replicate, All, Option, Some, None}
+use Rattle.std.specs.Prelude.{◌≡◌, ℕ, Bool, ◌+◌, ◌<◌, ◌≤◌, ◌⊎◌, List, [], ◌++◌, length, replicate, All, Option, Some, None}
 use Rattle.std.specs.List.{flat_map}
 use Rattle.pr_io.specs.Streams.{Took, Put}
-use Rattle.pr_io.specs.Told.{ToldMedium, ToldSink, ToldStreams, Told, told_medium, NoneFailed, SourceFailed, SinkFailed}
+use Rattle.pr_io.specs.Causes.{next_fault}
+use Rattle.pr_io.specs.Images.{Image, Story, Stays}
+use Rattle.pr_io.specs.Told.{ToldMedium, ToldDisk, ToldSink, ToldStreams, Told, NoneFailed, SourceFailed, SinkFailed}
 use Rattle.pr_grammar.specs.Schedules.{Record, IsRecord, spelled_record, Partial, Faulty, record_front, IsUnfinished, IsWhole, IsBrokenAt, IsLong}
-use Rattle.pr_model.specs.Keeping.{Nothing}
-use Rattle.pr_model.specs.Worlds.{Blocks, opened}
+use Rattle.pr_grammar.specs.Files.{Keeps, Bad, file_restores}
+use Rattle.pr_model.specs.Keeping.{Kept}
+use Rattle.pr_model.specs.Worlds.{Blocks, World, opened}
 use Rattle.pr_model.specs.Entries.{History}
-use Rattle.pr_model.specs.Histories.{AreBlocksOf, IsLegalOn, after, faults_in}
+use Rattle.pr_model.specs.Histories.{AreBlocksOf, IsLegalFrom, after, faults_in, failures_in}
+use Rattle.pr_model.specs.Stamps.{RestoresSome, AreStamps}
 use Rattle.pr_model.specs.Fencing.{IsFenced}
 use Rattle.pr_model.specs.Lanes.{Lane, fresh}
 use Rattle.pr_model.specs.Runs.{Deed, deed, IsRun, IsCutRun}
 use Rattle.pr_io.specs.declared.outside.Medium as media
 use Rattle.pr_io.specs.declared.outside.Disk as disks
 use Rattle.pr_core.specs.declared.target.Core.{Core}
-use Rattle.pr_core.specs.View.{StandsFor, Extends, medium_of, disk_of, faults_after}
+use Rattle.pr_core.specs.View.{Extends, faults_after}
 use Rattle.pr_tool.specs.Reading.{IsAtEnd}
 use Rattle.pr_tool.specs.declared.exit.Exit.{Exit}
-use Rattle.pr_tool.specs.declared.exit.Exit.TheVariants.{Done, BadWords, ReadFault, WriteFault, BadSchedule, NoMemory, TooLong}
+use Rattle.pr_tool.specs.declared.exit.Exit.TheVariants.{Done, BadWords, ReadFault, WriteFault, BadSchedule, BadFile, NoMemory, DiskFault, TooLong}
 
--- from the opening on, a removed nexus changes no block by an earlier task, whatever stands on a medium where that isn't told
-abbrev pub IsFencedOn : ToldMedium → History → Type 0
-IsFencedOn told h = (m : Blocks) → m.count ≡ told.blocks → AreBlocksOf told.contents m → IsFenced (opened m Nothing) h
+-- the worlds of an opening that restored a kept value: whatever stands on a medium where that isn't told, and whether the file tells what it holds or not
+abbrev pub OnOpened : ToldMedium → Kept → (World → Type 0) → Type 0
+OnOpened told kept Holds = (m : Blocks) (tells : Bool) → m.count ≡ told.blocks → AreBlocksOf told.contents m → Holds (opened m tells kept)
 
--- the medium ends with what the history from the opening says, block by block, wherever that is known
-abbrev pub HoldsAfter : ToldMedium → ToldMedium → History → Type 0
-HoldsAfter old new h =
-    (m : Blocks) → m.count ≡ old.blocks → AreBlocksOf old.contents m → AreBlocksOf new.contents (after (opened m Nothing) h).medium
-
--- a history that a target made from its opening on, over a medium that was so and is so now: legal, fenced, and kept by the medium, which has as many blocks as before and failed once for each fault in the history
-pub record IsServedOn (old new : ToldMedium) (h : History) : Type 0 where
-  pub legal : IsLegalOn old.blocks old.contents Nothing h
-  pub fenced : IsFencedOn old h
-  pub holds : HoldsAfter old new h
+-- a history that a target made from its opening on, over a medium and a disk that were so and are so now: the opening restored what the disk held as it was read; the history is legal, and fenced; the medium, which has as many blocks as before, ends with what the history says, block by block, wherever that is known; medium and disk failed once for each fault and for each failed save in the history
+pub record IsServedOn (old new : ToldMedium) (disk disk_now : ToldDisk) (story story_now : Story) (h : History) : Type 0 where
+  pub kept : Kept
+  pub restores : (image : Image) → story.now ≡ Some image → file_restores image ≡ Keeps kept
+  pub legal : OnOpened old kept (λ w. IsLegalFrom w h)
+  pub fenced : OnOpened old kept (λ w. IsFenced w h)
+  pub holds : OnOpened old kept (λ w. AreBlocksOf new.contents (after w h).medium)
   pub blocks : new.blocks ≡ old.blocks
   pub faults : new.faults ≡ faults_after (faults_in h) old.faults
+  pub failures : disk_now.faults ≡ faults_after (failures_in h) disk.faults
+  -- power may be lost at any moment: since the first sync of the opening, and where nothing was pending since the start, it restores what some prefix of the history left; since an entry's moment, what a prefix with that entry left; and at the end, what the whole history left
+  pub start : ℕ
+  pub later : story.moment ≤ start
+  pub stamps : List ℕ
+  pub stamped : OnOpened old kept (λ w. AreStamps story_now.now story_now.may start story_now.moment w h stamps)
+  pub since_start : ((image : Image) → story.may story.moment image → story.now ≡ Some image) → OnOpened old kept (λ w. (image : Image) → story_now.may story.moment image → RestoresSome w h image)
 
--- there is one history, served from the opening over the medium, whose run over the records that were read, which lie within the budget, makes of so many fresh lanes the last ones and writes all that was written; what was read ends with a tail behind the records
-pub record HasRun (Run : List Lane → List Record → Deed → List Lane → Type 0) (lanes budget : ℕ) (old new : ToldMedium) (before after : ToldStreams) (last : List Lane) (tail : List ℕ) : Type 0 where
+-- there is one history, served so, whose run over the records that were read, which lie within the budget, makes of so many fresh lanes the last ones and writes all that was written; what was read ends with a tail behind the records
+pub record HasRun (Run : List Lane → List Record → Deed → List Lane → Type 0) (Served : History → Type 0) (lanes budget : ℕ) (before after : ToldStreams) (last : List Lane) (tail : List ℕ) : Type 0 where
   pub records : List Record
   pub entries : History
   pub output : List ℕ
@@ -47,38 +55,55 @@ pub record HasRun (Run : List Lane → List Record → Deed → List Lane → Ty
   pub valid : All (IsRecord lanes) records
   pub within : length (flat_map spelled_record records) ≤ budget
   pub puts : Put before.sink.written after.sink.written output
-  pub served : IsServedOn old new entries
+  pub served : Served entries
   pub runs : Run (replicate lanes fresh) records (deed entries output) last
 
 -- how a run of so many lanes that has begun ends at each exit
-abbrev pub RunEnds : ℕ → ℕ → ToldMedium → ToldMedium → Exit → ToldStreams → ToldStreams → Type 0
-RunEnds lanes budget old new Done before after =
-    (last : List Lane) × HasRun IsRun lanes budget old new before after last []
+abbrev pub RunEnds : (History → Type 0) → ℕ → ℕ → Exit → ToldStreams → ToldStreams → Type 0
+RunEnds Served lanes budget Done before after =
+    (last : List Lane) × HasRun IsRun Served lanes budget before after last []
     × IsAtEnd after.source.rest × NoneFailed before after
-RunEnds lanes budget old new ReadFault before after =
-    (last : List Lane) × (tail : List ℕ) × (run : HasRun IsRun lanes budget old new before after last tail)
+RunEnds Served lanes budget ReadFault before after =
+    (last : List Lane) × (tail : List ℕ) × (run : HasRun IsRun Served lanes budget before after last tail)
     × IsUnfinished (record_front lanes tail) × (length (flat_map spelled_record run.records) + length tail ≤ budget)
     × SourceFailed before after
-RunEnds lanes budget old new WriteFault before after =
-    (last : List Lane) × HasRun IsCutRun lanes budget old new before after last [] × SinkFailed before after
-RunEnds lanes budget old new (BadSchedule place) before after =
-    (last : List Lane) × (tail : List ℕ) × (run : HasRun IsRun lanes budget old new before after last tail)
+RunEnds Served lanes budget WriteFault before after =
+    (last : List Lane) × HasRun IsCutRun Served lanes budget before after last [] × SinkFailed before after
+RunEnds Served lanes budget (BadSchedule place) before after =
+    (last : List Lane) × (tail : List ℕ) × (run : HasRun IsRun Served lanes budget before after last tail)
     × (place ≡ length (flat_map spelled_record run.records)) × (place + length tail ≤ budget)
     × IsUnfinished (record_front lanes tail)
     × ((record_front lanes tail ≡ Faulty) ⊎ ((0 < length tail) × IsAtEnd after.source.rest))
     × NoneFailed before after
-RunEnds lanes budget old new TooLong before after =
-    (last : List Lane) × (tail : List ℕ) × (more : List ℕ) × (run : HasRun IsRun lanes budget old new before after last (tail ++ more))
+RunEnds Served lanes budget TooLong before after =
+    (last : List Lane) × (tail : List ℕ) × (more : List ℕ) × (run : HasRun IsRun Served lanes budget before after last (tail ++ more))
     × (record_front lanes tail ≡ Partial) × (length (flat_map spelled_record run.records) + length tail ≡ budget)
     × (length more ≡ 1) × NoneFailed before after
-RunEnds lanes budget old new BadWords before after = ⊥
-RunEnds lanes budget old new NoMemory before after = ⊥
+RunEnds Served lanes budget BadWords before after = ⊥
+RunEnds Served lanes budget NoMemory before after = ⊥
+RunEnds Served lanes budget (BadFile place) before after = ⊥
+RunEnds Served lanes budget DiskFault before after = ⊥
 
--- how all stands at each exit; nothing was touched where no run began
-abbrev pub Stands : ℕ → ℕ → Exit → Told → Told → Type 0
-Stands lanes budget BadWords before after = after ≡ before
-Stands lanes budget NoMemory before after = after ≡ before
-Stands lanes budget exit before after = RunEnds lanes budget before.medium after.medium exit before.streams after.streams
+-- the disk failed once, and nothing else was called
+abbrev pub DiskFailed : Told → Told → Type 0
+DiskFailed before after = (after.streams ≡ before.streams) × (after.medium ≡ before.medium) × (after.disk.faults ≡ next_fault before.disk.faults)
+
+-- how all stands at each exit; where no run began, nothing was read from the source or written anywhere
+abbrev pub Stands : ℕ → ℕ → Exit → Told → Told → Story → Story → Type 0
+Stands lanes budget BadWords before after story story_now = after ≡ before
+Stands lanes budget NoMemory before after story story_now = (after ≡ before) × Stays story story_now
+Stands lanes budget (BadFile place) before after story story_now =
+    (after ≡ before) × Stays story story_now × ((image : Image) → story.now ≡ Some image → file_restores image ≡ Bad place)
+Stands lanes budget DiskFault before after story story_now = DiskFailed before after × Stays story story_now
+Stands lanes budget exit before after story story_now =
+    RunEnds (IsServedOn before.medium after.medium before.disk after.disk story story_now) lanes budget exit before.streams after.streams
+
+-- an exit before anything was read from the source
+abbrev pub IsUnopened : Exit → Type 0
+IsUnopened NoMemory = Unit {0}
+IsUnopened (BadFile place) = Unit {0}
+IsUnopened DiskFault = Unit {0}
+IsUnopened _ = ⊥
 
 -- the cause of an exit that the schedule alone brings, where the source tells it; no more than so many bytes are looked at
 abbrev pub Causes : ℕ → Exit → ℕ → Option (List ℕ) → Type 0
@@ -93,6 +118,8 @@ IsEarlier BadWords = Unit {0}
 IsEarlier ReadFault = Unit {0}
 IsEarlier WriteFault = Unit {0}
 IsEarlier NoMemory = Unit {0}
+IsEarlier (BadFile place) = Unit {0}
+IsEarlier DiskFault = Unit {0}
 IsEarlier _ = ⊥
 
 -- what the schedule alone brings is the exit, but where an earlier one came
@@ -111,19 +138,8 @@ pub record Ran {M D X : Type 0} {gm : media.Ghosts M} {gd : disks.Ghosts D} (Act
   pub extends : Extends old new entries
   pub puts : Put before.written after.written output
 
--- a core stands for the opening, with nothing kept, over whatever its medium may hold
-abbrev pub IsOpened : {M D : Type 0} {gm : media.Ghosts M} {gd : disks.Ghosts D} → Core M D gm gd → Type 0
-IsOpened {M} {D} {gm} {gd} c =
-    (m : Blocks) → m.count ≡ gm.count (medium_of c) → AreBlocksOf (gm.contents (medium_of c)) m → StandsFor c (opened m Nothing)
-
--- a core over the medium and the disk that another was over, of which the disk is as it was
-abbrev pub HasSameDevices : {M D : Type 0} {gm : media.Ghosts M} {gd : disks.Ghosts D} → Core M D gm gd → Core M D gm gd → Type 0
-HasSameDevices {M} {D} {gm} {gd} old new = (gm.reference (medium_of new) ≡ gm.reference (medium_of old)) × (disk_of new ≡ disk_of old)
-
--- a run that goes on: its core, from the opened one on, and its lanes, and how many bytes of the budget its records have left
+-- a run that goes on: what its core did, and its lanes, and how many bytes of the budget its records have left
 pub record GoesOn {M D : Type 0} {gm : media.Ghosts M} {gd : disks.Ghosts D} (lanes budget left : ℕ) (start core : Core M D gm gd) (before here : ToldStreams) (now : List Lane) : Type 0 where
-  pub run : HasRun IsRun lanes budget (told_medium gm (medium_of start)) (told_medium gm (medium_of core)) before here now []
-  pub opens : IsOpened start
-  pub extends : Extends start core run.entries
+  pub run : HasRun IsRun (λ h. Extends start core h) lanes budget before here now []
   pub counted : length (flat_map spelled_record run.records) + left ≡ budget
   pub calm : NoneFailed before here

@@ -8,6 +8,8 @@ use Rattle.pr_model.specs.Runs.{ActsOn, RunsRecord, CutsRecord}
 use Rattle.pr_io.specs.declared.outside.Medium as media
 use Rattle.pr_io.specs.declared.outside.Disk as disks
 use Rattle.pr_core.specs.declared.target.Core.{Core}
+use Rattle.pr_aptpl.specs.declared.fault.OpenFault.{OpenFault}
+use Rattle.pr_aptpl.specs.declared.fault.OpenFault.TheVariants as faults
 use Rattle.pr_tool.specs.Reading.{Stops}
 use Rattle.pr_tool.specs.Counting.{faults_at}
 use Rattle.pr_tool.specs.Exits.{Ran}
@@ -28,6 +30,12 @@ exit_at TooLong place = exits.TooLong
 abbrev pub exit_of : Stop → ℕ → Exit
 exit_of (stop.Read end) place = exit_at end place
 exit_of stop.Write place = exits.WriteFault
+
+-- the exit of a target that couldn't be opened
+abbrev pub unopened_of : OpenFault → Exit
+unopened_of (faults.BadFile place) = exits.BadFile place
+unopened_of faults.DiskFault = exits.DiskFault
+unopened_of faults.OutOfMemory = exits.NoMemory
 
 -- a record that was read, and what it did on its lane, of so many
 pub record Did {M D : Type 0} {gm : media.Ghosts M} {gd : disks.Ghosts D} (lanes left : ℕ) (before after : ToldStreams) (old : Core M D gm gd) (earlier : List Lane) (new : Core M D gm gd) (now : List Lane) (size : ℕ) : Type 0 where

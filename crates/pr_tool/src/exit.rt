@@ -19,8 +19,15 @@ pub enum Exit {
         /// How many bytes of whole records stand before the fault.
         place: u64,
     },
+    /// What stands on the disk isn't a registrations' file.
+    BadFile {
+        /// Where the first field begins that is wrong.
+        place: u64,
+    },
     /// There was no memory for what a run needs.
     NoMemory,
+    /// The disk failed when its file was opened.
+    DiskFault,
     /// The input has more bytes than are looked at.
     TooLong,
 }
@@ -29,7 +36,7 @@ pub enum Exit {
 #[derive(Clone, Copy, Debug, PartialEq, Eq, Error)]
 pub enum Fault {
     /// The words of the command line make no command.
-    #[error("the words are neither `show` nor `replay` and a number of lanes from 1 to 64")]
+    #[error("the words are neither `show`, `persist` nor `replay` with 1 to 64 lanes")]
     Words,
     /// The input failed.
     #[error("the input couldn't be read")]
@@ -43,9 +50,18 @@ pub enum Fault {
         /// How many bytes of whole records stand before the fault.
         place: u64,
     },
+    /// What stands on the disk isn't a registrations' file.
+    #[error("the registrations' file breaks its grammar at byte {place}")]
+    File {
+        /// Where the first field begins that is wrong.
+        place: u64,
+    },
     /// There was no memory for what a run needs.
     #[error("no memory for the run")]
     Memory,
+    /// The disk failed when its file was opened.
+    #[error("the registrations' file couldn't be read")]
+    Disk,
     /// The input has more bytes than are looked at.
     #[error("the input is longer than 4294967296 bytes")]
     Length,
@@ -62,7 +78,9 @@ impl Exit {
             Exit::ReadFault => 3,
             Exit::WriteFault => 4,
             Exit::BadSchedule { .. } => 5,
+            Exit::BadFile { .. } => 6,
             Exit::NoMemory => 7,
+            Exit::DiskFault => 8,
             Exit::TooLong => 9,
         }
     }
@@ -77,7 +95,9 @@ impl Exit {
             Exit::ReadFault => Some(Fault::Read),
             Exit::WriteFault => Some(Fault::Write),
             Exit::BadSchedule { place } => Some(Fault::Schedule { place }),
+            Exit::BadFile { place } => Some(Fault::File { place }),
             Exit::NoMemory => Some(Fault::Memory),
+            Exit::DiskFault => Some(Fault::Disk),
             Exit::TooLong => Some(Fault::Length),
         }
     }

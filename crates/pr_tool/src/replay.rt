@@ -1,24 +1,24 @@
 ghost use Rattle.std.specs.Prelude.{◌≡◌, ◌+◌, ◌-◌, ◌≤◌, ◌<◌, ◌^◌, ◌↔◌, ◌⊎◌, ℕ, List, replicate, length, vec_len, IfOk, OnOk, OnErr};
 ghost use Rattle.pr_io.specs.Causes.{HasCause};
-ghost use Rattle.pr_io.specs.Told.{told_medium, told_sink, told_streams, told};
+ghost use Rattle.pr_io.specs.Told.{told_sink, told_streams, told};
 ghost use Rattle.pr_grammar.specs.Schedules as schedules;
 ghost use Rattle.pr_model.specs.Lanes.{fresh};
 ghost use Rattle.pr_model.specs.Lanes as model;
 ghost use Rattle.pr_model.specs.Runs.{RunsRecord, CutsRecord, ActsOn};
-ghost use Rattle.pr_core.specs.View.{medium_of, disk_of, KeepsOthers};
+ghost use Rattle.pr_core.specs.View.{medium_of, disk_of, KeepsOthers, Extends};
 ghost use Rattle.pr_tool.specs.Reading.{record_of, IsHeld, Reads};
 ghost use Rattle.pr_tool.specs.Lanes.{lane_of, lanes_of};
 ghost use Rattle.pr_session.specs.Driving.{Agrees, AllAgree};
 ghost use Rattle.pr_tool.specs.Counting.{faults_read};
-ghost use Rattle.pr_tool.specs.Exits.{IsOpened, HasSameDevices, Ran, RunEnds, Stands, Causes, Decides};
-ghost use Rattle.pr_tool.specs.Stops.{exit_of, RunsOne};
+ghost use Rattle.pr_tool.specs.Exits.{Ran, RunEnds, Stands, Causes, Decides, IsUnopened};
+ghost use Rattle.pr_tool.specs.Stops.{exit_of, unopened_of, RunsOne};
 ghost use Rattle.pr_tool.specs.Asking.{AsksReplay};
 
 use crate::asking::lanes_asked;
 use crate::exit::Exit;
 use crate::lane::Lane;
 use crate::schedule::{End, Record, read_record};
-use pr_core::{Core, Room};
+use pr_core::{Core, OpenFault};
 use pr_io::{Disk, Failed, Medium, Sink, Source};
 use std::alloc::{AllocError, Global};
 
@@ -205,15 +205,12 @@ fn run<S: Source, K: Sink, M: Medium, D: Disk>(
     body: &mut Vec<u8>,
     budget: u64,
 ) -> Exit
-    requires opened { IsOpened core.old }
     requires fresh { lanes_of lanes.old ≡ replicate (length lanes.old) fresh }
     requires most { length lanes.old ≤ 64 }
     requires room { vec_len body.old ≡ 65535 }
-    ensures ends { RunEnds (length lanes.old) budget
-        (told_medium M.Medium (medium_of core.old)) (told_medium M.Medium (medium_of core.new))
-        result (told_streams S.Source K.Sink source.old sink.old)
+    ensures ends { RunEnds (λ h. Extends core.old core.new h) (length lanes.old) budget result
+        (told_streams S.Source K.Sink source.old sink.old)
         (told_streams S.Source K.Sink source.new sink.new) }
-    ensures devices { HasSameDevices core.old core.new }
     ensures causes { Causes (length lanes.old) result budget (S.rest source.old) }
 {
     let mut left = budget;
@@ -237,6 +234,25 @@ fn fresh_lanes(alloc: Global, count: usize) -> Result<Vec<Lane>, AllocError>
     Ok(lanes)
 }
 
+/// The exit of a target that couldn't be opened.
+fn unopened(fault: OpenFault) -> Exit
+    ensures { result ≡ unopened_of fault }
+{
+    match fault {
+        OpenFault::BadFile { place } => Exit::BadFile { place },
+        OpenFault::DiskFault => Exit::DiskFault,
+        OpenFault::OutOfMemory => Exit::NoMemory,
+    }
+}
+
+/// The exit of a target that couldn't be opened, with its disk and its medium.
+fn refused<M: Medium, D: Disk>(parts: (OpenFault, M, D)) -> (Exit, D, M)
+    ensures { (result.0 ≡ unopened_of parts.0) × (result.1 ≡ parts.2) × (result.2 ≡ parts.1) }
+{
+    let (fault, medium, disk) = parts;
+    (unopened(fault), disk, medium)
+}
+
 /// The disk and the medium of a target to which no record is to come any more.
 fn parts_of<M: Medium, D: Disk>(core: Core<M, D>) -> (D, M)
     ensures { (result.0 ≡ disk_of core) × (result.1 ≡ medium_of core) }
@@ -258,13 +274,14 @@ fn replay_over<S: Source, K: Sink, M: Medium, D: Disk>(
     requires { (1 ≤ lanes) × (lanes ≤ 64) }
     ensures stands { Stands lanes budget result.0
         (told S.Source K.Sink M.Medium D.Disk source.old sink.old medium.old disk)
-        (told S.Source K.Sink M.Medium D.Disk source.new sink.new medium.new result.1) }
+        (told S.Source K.Sink M.Medium D.Disk source.new sink.new medium.new result.1)
+        (D.story disk) (D.story result.1) }
     ensures causes { Causes lanes result.0 budget (S.rest source.old) }
     ensures decides { Decides lanes result.0 budget (S.rest source.old) }
     ensures begun { result.0 ≡ Exit.BadWords → ⊥ }
-    ensures untouched { result.0 ≡ Exit.NoMemory → (source.new ≡ source.old)
+    ensures untouched { IsUnopened result.0 → (source.new ≡ source.old)
         × (sink.new ≡ sink.old) × (medium.new ≡ medium.old) }
-    ensures disk { result.1 ≡ disk }
+    ensures disk { D.reference result.1 ≡ D.reference disk }
 {
     let Ok(mut sessions) = fresh_lanes(alloc, lanes) else {
         return (Exit::NoMemory, disk);
@@ -272,10 +289,13 @@ fn replay_over<S: Source, K: Sink, M: Medium, D: Disk>(
     let Ok(mut body) = vec![in alloc; 0u8; ARRIVAL] else {
         return (Exit::NoMemory, disk);
     };
-    let Ok(room) = Room::new(alloc) else {
-        return (Exit::NoMemory, disk);
+    let mut core = match Core::open(alloc, medium, disk) {
+        Ok(core) => core,
+        Err(parts) => {
+            let (exit, disk, _medium) = refused(parts);
+            return (exit, disk);
+        }
     };
-    let mut core = Core::open_in(room, medium, disk);
     let exit = run(source, sink, &mut core, &mut sessions, &mut body, budget);
     let (disk, _medium) = parts_of(core);
     (exit, disk)
@@ -298,20 +318,21 @@ pub fn replay_within<S: Source, K: Sink, M: Medium, D: Disk>(
 ) -> Exit
     requires { (1 ≤ lanes) × (lanes ≤ 64) }
 
-    // The headline, for the commands that there are: one history whose run over the records read
-    // gives the bytes written, legal over the medium handed in and fenced; the medium ends with what
-    // it says. Which stream failed, and that no fault of stream or medium is passed over.
+    // The headline: one history whose run over the records read gives the bytes written, legal over
+    // the medium and the file handed in and fenced; the medium ends with what it says; and power
+    // that is lost at any moment restores what a prefix of it left that holds every entry whose
+    // moment has passed. Which object failed, and that no fault of one is passed over.
     ensures stands { Stands lanes budget result
         (told S.Source K.Sink M.Medium D.Disk source.old sink.old medium.old disk.old)
-        (told S.Source K.Sink M.Medium D.Disk source.new sink.new medium.new disk.new) }
+        (told S.Source K.Sink M.Medium D.Disk source.new sink.new medium.new disk.new)
+        (D.story disk.old) (D.story disk.new) }
 
     // The causes of the exits, and that what the schedule alone brings is the exit.
     ensures causes { Causes lanes result budget (S.rest source.old) }
     ensures decides { Decides lanes result budget (S.rest source.old) }
     ensures begun { result ≡ Exit.BadWords → ⊥ }
-    ensures disk { disk.new ≡ disk.old }
-    ensures untouched { result ≡ Exit.NoMemory → (source.new ≡ source.old) × (sink.new ≡ sink.old)
-        × (medium.new ≡ medium.old) × (disk.new ≡ disk.old) }
+    ensures untouched { IsUnopened result → (source.new ≡ source.old) × (sink.new ≡ sink.old)
+        × (medium.new ≡ medium.old) }
 {
     let (exit, _disk) = replay_over(alloc, lanes, budget, source, sink, medium, disk);
     exit
@@ -319,15 +340,18 @@ pub fn replay_within<S: Source, K: Sink, M: Medium, D: Disk>(
 
 /// Runs a schedule over a target, on 1 to 64 lanes: the words are `replay` and their number.
 ///
-/// The target begins as after a power-up that restored nothing. READ and WRITE move blocks of the
-/// medium, one with each step; the disk isn't touched yet. The schedule's records act in order, each
-/// on the lane of its number, under which the target knows that lane, and each reply is written at
-/// once. All memory is taken before the first record: some 1 MiB for each lane.
+/// The target begins as after a power-up, with what the registrations' file on the disk has kept.
+/// READ and WRITE move blocks of the medium, one with each step; a PERSISTENT RESERVE OUT that
+/// changes what APTPL keeps is saved on the disk before it is answered. The schedule's records act in
+/// order, each on the lane of its number, under which the target knows that lane, and each reply is
+/// written at once. All memory is taken before the first record: some 1 MiB for each lane.
 ///
 /// # Errors
 ///
 /// `BadWords` where the words are others, before anything is read, written or taken; `NoMemory`
-/// where the memory is refused, before anything is read or written; `ReadFault` and `WriteFault`
+/// where the memory is refused, `BadFile` where what stands on the disk isn't a registrations' file,
+/// and `DiskFault` where the disk fails when it is opened, before anything is read from the source
+/// or written anywhere; `ReadFault` and `WriteFault`
 /// where the source or the sink failed; `BadSchedule` where the schedule breaks its grammar or ends
 /// inside a record; `TooLong` where it goes on behind its first 2^32 bytes. The records before have
 /// run.
@@ -342,15 +366,15 @@ pub fn replay_main<S: Source, K: Sink, M: Medium, D: Disk>(
     ensures words { result ≡ Exit.BadWords ↔ (¬ ((lanes : ℕ) × AsksReplay words.now lanes)) }
     ensures stands { (lanes : ℕ) → AsksReplay words.now lanes → Stands lanes (2 ^ 32) result
         (told S.Source K.Sink M.Medium D.Disk source.old sink.old medium.old disk.old)
-        (told S.Source K.Sink M.Medium D.Disk source.new sink.new medium.new disk.new) }
+        (told S.Source K.Sink M.Medium D.Disk source.new sink.new medium.new disk.new)
+        (D.story disk.old) (D.story disk.new) }
     ensures causes { (lanes : ℕ) → AsksReplay words.now lanes →
         Causes lanes result (2 ^ 32) (S.rest source.old) }
     ensures decides { (lanes : ℕ) → AsksReplay words.now lanes →
         Decides lanes result (2 ^ 32) (S.rest source.old) }
-    ensures disk { disk.new ≡ disk.old }
-    ensures untouched { (result ≡ Exit.BadWords) ⊎ (result ≡ Exit.NoMemory) →
-        (source.new ≡ source.old) × (sink.new ≡ sink.old)
-        × (medium.new ≡ medium.old) × (disk.new ≡ disk.old) }
+    ensures untouched { (result ≡ Exit.BadWords) ⊎ IsUnopened result →
+        (source.new ≡ source.old) × (sink.new ≡ sink.old) × (medium.new ≡ medium.old) }
+    ensures unasked { result ≡ Exit.BadWords → disk.new ≡ disk.old }
 {
     match lanes_asked(words) {
         Some(lanes) => replay_within(alloc, lanes, BUDGET, source, sink, medium, disk),

@@ -104,6 +104,13 @@ impl Code {
         ascq: 0,
     };
 
+    /// INTERNAL TARGET FAILURE.
+    pub const INTERNAL_TARGET_FAILURE: Code = Code {
+        key: 4,
+        asc: 0x44,
+        ascq: 0,
+    };
+
     /// POWER ON, RESET, OR BUS DEVICE RESET OCCURRED.
     pub const POWER_ON: Code = Code {
         key: 6,

@@ -1,5 +1,4 @@
-use Rattle.std.proofs.Common.{◌≡◌, List, ℕ}
-use Rattle.pr_session.proofs.Parts.{Holds, holds, step_entry, step_kept}
+use Rattle.pr_session.proofs.Parts.{holds, step_entry, step_kept}
 use Rattle.pr_session.proofs.acting.step_on.Goals as goal
 
 pub returns-clause-entry : goal.returns-clause-entry

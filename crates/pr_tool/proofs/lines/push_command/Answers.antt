@@ -1,4 +1,4 @@
-use Rattle.std.proofs.Common.{refl, ap}
+use Rattle.std.proofs.Common.{refl}
 use Rattle.pr_grammar.specs.Cdbs.{operation_code}
 use Rattle.pr_tool.proofs.LineTexts.{command_joined, first_byte}
 use Rattle.pr_tool.proofs.lines.push_command.Goals as goal

@@ -1,9 +1,9 @@
-use Rattle.std.proofs.Common.{◌≡◌, ℕ, List, ◌++◌, length, sym, ap, ◌∙◌, subst, arith}
+use Rattle.std.proofs.Common.{◌≡◌, ℕ, List, ◌++◌, length, sym, ap, ◌∙◌, subst}
 use Rattle.std.specs.Prelude.{OnOk, OnErr}
 use Rattle.pr_io.specs.Streams.{Put, PutSome}
 use Rattle.pr_grammar.specs.Outputs.{output_of}
 use Rattle.pr_model.proofs.Outputs.{output_of-short}
-use Rattle.pr_session.specs.Sessions.{reply_of, room_of}
+use Rattle.pr_session.specs.Sessions.{reply_of}
 use Rattle.pr_tool.proofs.output.put_short.Goals as goal
 
 pub returns-clause-all : goal.returns-clause-all

@@ -16,5 +16,5 @@ pub returns-in-Some-clause-untouched : goal.returns-in-Some-clause-untouched
 returns-in-Some-clause-untouched g c which =
     elim which [
       | inl words ↦ absurd (c.replay_within.ensures.begun words)
-      | inr memory ↦ c.replay_within.ensures.untouched memory
+      | inr unopened ↦ c.replay_within.ensures.untouched unopened
     ]

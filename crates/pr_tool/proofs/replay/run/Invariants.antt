@@ -1,4 +1,4 @@
-use Rattle.std.proofs.Common.{◌≡◌, ◌≤◌, ◌-◌, length, vec_len}
+use Rattle.std.proofs.Common.{◌≡◌, ◌≤◌, length, vec_len}
 use Rattle.pr_io.specs.Told.{told_streams}
 use Rattle.pr_session.specs.Driving.{AllAgree}
 use Rattle.pr_tool.specs.Exits.{GoesOn}

@@ -8,7 +8,7 @@ use Rattle.pr_core.specs.States.{progress_in}
 use Rattle.pr_core.specs.Fitting.{Fits}
 use Rattle.pr_core.specs.Stepping.{with_task}
 use Rattle.pr_core.proofs.Admitting.{task_begins}
-use Rattle.pr_core.proofs.StateLaws.{seated_same}
+use Rattle.pr_core.proofs.StateLaws.{seated_same, same_ports}
 use Rattle.pr_core.proofs.Going.{set_stays, set_here, set_owner, progress_is}
 use Rattle.pr_core.proofs.Tasked.{retasked, retasked_fits}
 use Rattle.pr_core.proofs.Owned.{retasked_owned}
@@ -33,6 +33,7 @@ returns-clause-serves c lun buf w command sent depicts carries =
     let t = c.args.task in (
       record w { task = set_at w.task c.args.nexus (Some t) },
       retasked self _ c.args.nexus (Some t) w.medium w (record { standing = refl; blocks = refl; seat = c.begin.ensures.seat; count = c.begin.ensures.count; known = c.requires.known }) depicts refl,
+      refl,
       task_begins w c.args.nexus lun command sent t c.way-way.result (λ e. c.if-count-eq0.false (omega (arith, c.left-count.ensures, e))) c.requires.fresh c.way-way.ensures carries,
     )
 
@@ -53,3 +54,8 @@ returns-clause-others c =
 pub returns-clause-begun : goal.returns-clause-begun
 returns-clause-begun c =
     let none : c.args.task.done ≡ 0 = ap (λ (x : Task). x.done) c.requires.fresh in (c.way-way.ensures, omega (arith, c.left-count.ensures, none))
+
+pub invariant_of-self-clause-ports : goal.invariant_of-self-clause-ports
+invariant_of-self-clause-ports c =
+    same_ports (seat_of c.args.self.now.seats) (seat_of c.begin.new.self)
+    (λ n. ap (λ (k : Nexus → Option Seat). is_some (k n)) c.begin.ensures.seat ∙ seated_same (with_task (Some c.args.task)) (seat_of c.args.self.now.seats) c.args.nexus n) c.args.self.now.ports

@@ -3,6 +3,7 @@ use Rattle.pr_grammar.specs.Operations.{unconditional_in}
 use std.Path.{fun_ext}
 use Rattle.pr_core.specs.Seats.{seat_of}
 use Rattle.pr_core.proofs.Sitting.{takes_some, takes_owner, takes_fit, takes_progress, attention_passes, attention_reported, attention_passed_over}
+use Rattle.pr_core.proofs.StateLaws.{same_ports}
 use Rattle.pr_core.proofs.Owned.{same_owned}
 use Rattle.pr_core.proofs.state.State.check_attention.Goals as goal
 
@@ -10,8 +11,13 @@ pub invariant_of-self : goal.invariant_of-self
 invariant_of-self c =
     record {
       limit = c.args.self.now.limit;
+      same_limit = c.args.self.now.same_limit;
       within = c.args.self.now.within;
+      ascending = c.args.self.now.ascending;
+      keys = c.args.self.now.keys;
+      sound = c.args.self.now.sound;
       seated = λ n is. takes_some (seat_of c.args.self.now.seats) (seat_of c.take_attention.new.self) c.args.nexus c.take_attention.ensures.seat n ∙ c.args.self.now.seated n is;
+      ports = same_ports (seat_of c.args.self.now.seats) (seat_of c.take_attention.new.self) (takes_some (seat_of c.args.self.now.seats) (seat_of c.take_attention.new.self) c.args.nexus c.take_attention.ensures.seat) c.args.self.now.ports;
       fits = takes_fit c.args.self.now.blocks (seat_of c.args.self.now.seats) (seat_of c.take_attention.new.self) c.args.nexus c.take_attention.ensures.seat c.args.self.now.fits;
       owned =
           same_owned (seat_of c.args.self.now.seats) (seat_of c.take_attention.new.self) (takes_owner (seat_of c.args.self.now.seats) (seat_of c.take_attention.new.self) c.args.nexus c.take_attention.ensures.seat)

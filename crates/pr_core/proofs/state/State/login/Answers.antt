@@ -7,7 +7,7 @@ use Rattle.pr_model.specs.Histories.{login_code}
 use Rattle.pr_core.specs.declared.seats.Seat.{Seat}
 use Rattle.pr_core.specs.Seats.{seat_of, count_of, owner_in, task_in, logged_in}
 use Rattle.pr_core.specs.States.{owner_at, progress_in}
-use Rattle.pr_core.proofs.StateLaws.{login_depicts, stays_seated, others_stay, others_go_on, login_fits, at_same, owner_now, accepted_code}
+use Rattle.pr_core.proofs.StateLaws.{login_depicts, stays_seated, others_stay, others_go_on, login_fits, at_same, owner_now, accepted_code, port_by, set_ports}
 use Rattle.pr_core.proofs.Owned.{login_owned, login_idle}
 use Rattle.pr_core.proofs.state.State.login.Goals as goal
 use Rattle.pr_core.proofs.state.State.login.Goals.{else-is_full-via-then-is_full+else-not-is_known, else-is_full-via-else-is_full}
@@ -57,3 +57,7 @@ pub returns-clause-idle : goal.returns-clause-idle
 returns-clause-idle c done =
     let nobody : is_some (owner_at c.args.self.now c.args.nexus) ≡ false = ap is_some (sym c.owner.ensures) ∙ sym c.is_some.ensures ∙ c.if-is_some.false in
     login_idle c.args.who (seat_of c.args.self.now.seats) (seat_of c.log_in.new.self) c.args.nexus c.log_in.ensures.seat nobody c.args.self.now.owned
+
+pub invariant_of-self-clause-ports : goal.invariant_of-self-clause-ports
+invariant_of-self-clause-ports c =
+    rw c.log_in.ensures.seat (set_ports (seat_of c.args.self.now.seats) c.args.nexus (Some (logged_in c.args.who c.args.nexus (seat_of c.args.self.now.seats c.args.nexus))) c.args.self.now.ports (port_by c.args.nexus.port c.if-nexus-eq0.false c.if-nexus-gt16.false))

@@ -3,7 +3,7 @@ use Rattle.pr_words.specs.declared.nexus.Nexus.{Nexus}
 use Rattle.pr_core.specs.declared.seats.Seat.{Seat}
 use Rattle.pr_core.specs.Seats.{seat_of, owner_in, task_in, logged_out}
 use Rattle.pr_core.specs.States.{progress_in}
-use Rattle.pr_core.proofs.StateLaws.{logout_depicts, logout_fits, seated_same, others_stay, others_go_on}
+use Rattle.pr_core.proofs.StateLaws.{logout_depicts, logout_fits, seated_same, others_stay, others_go_on, same_ports}
 use Rattle.pr_core.proofs.Owned.{logout_owned}
 use Rattle.pr_core.proofs.state.State.logout.Goals as goal
 
@@ -28,3 +28,7 @@ returns-clause-others c other n differs owned =
       ap (λ (seat : Nexus → Option Seat). owner_in (seat n)) c.log_out.ensures.seat ∙ others_stay before c.args.nexus o other n not_here owned,
       ap (λ (seat : Nexus → Option Seat). progress_in (task_in (seat n))) c.log_out.ensures.seat ∙ others_go_on before c.args.nexus o other n not_here owned,
     )
+
+pub invariant_of-self-clause-ports : goal.invariant_of-self-clause-ports
+invariant_of-self-clause-ports c =
+    rw c.log_out.ensures.seat (same_ports (seat_of c.args.self.now.seats) _ (λ n. seated_same logged_out (seat_of c.args.self.now.seats) c.args.nexus n) c.args.self.now.ports)

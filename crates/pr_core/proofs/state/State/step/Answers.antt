@@ -9,7 +9,7 @@ use Rattle.pr_core.specs.Seats.{seat_of, task_in}
 use Rattle.pr_core.specs.States.{progress_in}
 use Rattle.pr_core.specs.Stepping.{task_after, with_task}
 use Rattle.pr_core.specs.Outs.{step_out, Progresses}
-use Rattle.pr_core.proofs.StateLaws.{seated_same}
+use Rattle.pr_core.proofs.StateLaws.{seated_same, same_ports}
 use Rattle.pr_core.proofs.Going.{others_seated, set_stays, set_here, set_owner}
 use Rattle.pr_core.proofs.Tasked.{retasked_is, retasked_fits}
 use Rattle.pr_core.proofs.StepLaws.{the_task, has_within, seat_there, fits_after, progresses, moves}
@@ -27,8 +27,13 @@ invariant_of-self g c =
     let t = the_task _ _ (task_in (f c.args.nexus)) c.requires.task c.step.ensures.seat c.step.ensures.did in
     record {
       limit = self.limit;
+      same_limit = self.same_limit;
       within = self.within;
+      ascending = self.ascending;
+      keys = self.keys;
+      sound = self.sound;
       seated = λ n is. ap (λ (k : Nexus → Option Seat). is_some (k n)) t.2 ∙ seated_same (with_task (task_after c.step.result t.0)) f c.args.nexus n ∙ self.seated n is;
+      ports = same_ports f h (λ n. ap (λ (k : Nexus → Option Seat). is_some (k n)) t.2 ∙ seated_same (with_task (task_after c.step.result t.0)) f c.args.nexus n) self.ports;
       fits = retasked_fits self.blocks f h c.args.nexus (task_after c.step.result t.0) t.2 self.fits (λ u e. fits_after self.blocks c.step.result t.0 u (self.fits c.args.nexus t.0 t.1) e);
       owned = retasked_owned f h c.args.nexus (task_after c.step.result t.0) t.2 (runs_owned f c.args.nexus t.0 self.owned t.1) self.owned;
       some = self.some;

@@ -1,5 +1,4 @@
 use Rattle.std.proofs.Common.{◌≡◌, length, subst, arith}
-use Rattle.pr_tasks.specs.declared.step_out.StepOut.{StepOut}
 use Rattle.pr_link.specs.Deframer.{held_of, place_of}
 use Rattle.pr_session.specs.Jobs.{FitsStep}
 use Rattle.pr_session.specs.Sessions.{work_of}

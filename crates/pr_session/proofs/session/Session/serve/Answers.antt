@@ -1,10 +1,9 @@
-use Rattle.std.proofs.Common.{◌≡◌, ℕ, List, take, drop, length, refl, sym, ap, ◌∙◌, subst, arith, ◌≤◌, inl, inr}
+use Rattle.std.proofs.Common.{◌≡◌, ℕ, List, take, length, refl, sym, ap, ◌∙◌, subst, arith, ◌≤◌, inl, inr}
 use Rattle.std.proofs.lemmas.List.{length-drop, length-take}
 use Rattle.pr_words.specs.declared.nexus.Nexus.{Nexus}
 use Rattle.pr_grammar.specs.Bodies.{command_data}
 use Rattle.pr_model.specs.Entries as entries
-use Rattle.pr_model.specs.Lanes.{Phase, Fresh, In, Turn, Asks, asked, broken, after_login, after_command, place_after}
-use Rattle.pr_link.specs.declared.request.Request.{Request}
+use Rattle.pr_model.specs.Lanes.{Phase, Fresh, In, Turn, Asks, asked, broken, after_login, after_command}
 use Rattle.pr_link.specs.declared.request.Request.TheVariants.{Login, Command, Logout}
 use Rattle.pr_link.specs.Streams.{frame_of}
 use Rattle.pr_link.specs.Deframer.{held_of, place_of}
