@@ -1,4 +1,4 @@
-//! What only a test can say: runs over streams that fail, and those that end at a bound.
+//! What only a test can say: runs over streams and disks that fail, and those that end at a bound.
 //!
 //! Conversations, byte for byte, stand among the data of the crate `conversations`.
 #![tactic(auto)]
@@ -11,5 +11,7 @@ mod bounds;
 mod faults;
 #[cfg(test)]
 mod pieces;
+#[cfg(test)]
+mod saves;
 #[cfg(test)]
 mod streams;
