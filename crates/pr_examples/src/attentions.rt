@@ -1,5 +1,5 @@
-//! The unit attentions of one nexus: more than two never wait while nothing outlives a power-up, so
-//! a list of all four is tried on its type.
+//! The unit attentions of one nexus: all four never wait at once, since a removed nexus is told
+//! nothing more before it has cleared its list and registered again. So four are tried on the type.
 
 use pr_rules::Attentions;
 use pr_words::Code;

@@ -39,7 +39,7 @@ const ONE_KEY_AGAIN: &str =
 const KEY_KEPT: &str =
     "00000020 0000001C 82000000 00000004 00000000 00000000 00000008 0000000090010001";
 
-/// A lane that logs in and takes the attention of the power-up, and then registers and looks, twice.
+/// A lane that logs in, takes the attention of the power-up, and registers and looks twice.
 const TWICE: [&str; 18] = [
     LOGS_IN,
     LOGIN,
@@ -74,7 +74,7 @@ const LOOKS: [&str; 9] = [
     STEP,
 ];
 
-/// A disk with a registrations' file of this version in which nothing was kept, and calls that fail.
+/// A disk with a file of this version in which nothing was kept, whose calls of these numbers fail.
 fn disk_of(alloc: Global, version: u8, failing: Vec<u64>) -> Result<MemDisk, Fail> {
     let mut head = FRESH_HEAD;
     head[8] = version;
