@@ -7,4 +7,5 @@ pub mod Opened
 pub mod Apart
 pub mod Keepable
 pub mod Spelled
+pub mod Telling
 pub mod Saving

@@ -1,5 +1,5 @@
 -- What a keeper stands for (this project's own).
-use Rattle.std.specs.Prelude.{Bool, List, [], ◌∷◌, ◌++◌, Result, Ok, Err}
+use Rattle.std.specs.Prelude.{Bool, List, [], ◌∷◌, ◌++◌, is_some, Result, Ok, Err}
 use Rattle.pr_grammar.specs.Standings.{Kept}
 use Rattle.pr_grammar.specs.Files.{file_head, file_layout, file_restores}
 use Rattle.pr_io.specs.Images.{Image, Story, Stays}
@@ -21,6 +21,10 @@ module _ {D : Type 0} {of_disk : disks.Ghosts D} where
 
   abbrev pub story_of : Keeper D of_disk → Story
   story_of k = of_disk.story k.disk
+
+  -- whether what a read of its disk gives is told
+  abbrev pub is_told : Keeper D of_disk → Bool
+  is_told k = is_some (story_of k).now
 
   -- the last save since the opening failed
   abbrev pub is_in_doubt : Keeper D of_disk → Bool

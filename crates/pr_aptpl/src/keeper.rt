@@ -48,7 +48,7 @@ fn spell_into(buffer: &mut Vec<u8>, turn: u8, table: &Table) -> usize
 }
 
 impl<D: Disk> Keeper<D> {
-    ghost use Rattle.pr_aptpl.specs.Keepers.{Opens, Saves, StandsFor, disk_of, is_in_doubt};
+    ghost use Rattle.pr_aptpl.specs.Keepers.{Opens, Saves, StandsFor, disk_of, is_in_doubt, is_told};
 
     /// Opens the registrations' file on a disk, and gives what was kept. It begins with a sync, reads
     /// at most 4 KiB, and writes nothing. Where it fails the disk comes back.
@@ -99,6 +99,7 @@ impl<D: Disk> Keeper<D> {
         ensures saves { (ks : List Kept) → StandsFor self.old ks
             → Saves self.old self.new ks (kept (standing_of table.now)) result }
         ensures doubt { IsTrue (is_in_doubt self.new) ↔ IsErr result }
+        ensures told { is_told self.new ≡ is_told self.old }
         ensures reference { D.reference (disk_of self.new) ≡ D.reference (disk_of self.old) }
         ensures cause { HasCause (D.faults (disk_of self.old)) (D.faults (disk_of self.new))
             result }

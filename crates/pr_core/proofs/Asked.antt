@@ -9,6 +9,7 @@ use Rattle.pr_model.specs.Commands.{answer, good}
 use Rattle.pr_model.specs.Saving.{restorable, asks_to_save}
 use Rattle.pr_model.specs.Stamps.{IsOneOf, Restores}
 use Rattle.pr_model.proofs.SameKept.{same_kept_is}
+use Rattle.pr_model.proofs.Settling.{none_left}
 use Rattle.pr_aptpl.specs.declared.keeper.Keeper.{Keeper}
 use Rattle.pr_aptpl.specs.Keepers.{StandsFor, Saves, story_of, is_in_doubt}
 use Rattle.pr_aptpl.proofs.Guarding.{goes_as}
@@ -22,10 +23,6 @@ not_false false is = absurd cc
 empty_is : (ks : List Kept) → is_empty ks ≡ true → ks ≡ []
 empty_is [] is = refl
 empty_is (k ∷ ks) is = absurd cc
-
-none_left : (ks : List Kept) → same_kepts ks [] ≡ is_empty ks
-none_left [] = refl
-none_left (k ∷ ks) = refl
 
 -- one of the values before, or the last
 one_split : (ks : List Kept) (k : Kept) (r : Restoration) → IsOneOf (ks ++ k ∷ []) r → IsOneOf ks r ⊎ IsOneOf (k ∷ []) r

@@ -1,5 +1,5 @@
 -- Entries that a core makes, one after another.
-use Rattle.std.proofs.Common.{◌≡◌, inr, ℕ, zero, suc, ◌+◌, ◌-◌, ◌^◌, ◌<◌, ◌≤◌, min, List, Option, [], ◌∷◌, ◌++◌, refl, sym, ap, ◌∙◌, subst, arith}
+use Rattle.std.proofs.Common.{◌≡◌, inr, true, ℕ, zero, suc, ◌+◌, ◌-◌, ◌^◌, ◌<◌, ◌≤◌, min, List, Option, [], ◌∷◌, ◌++◌, refl, sym, ap, ◌∙◌, subst, arith}
 use Rattle.std.proofs.Math.Nat.{ℕ_set}
 use Rattle.pr_words.specs.declared.nexus.Nexus.{Nexus}
 use Rattle.pr_model.specs.Entries.{Act, Out, Entry, History, entry, Login, Command, Step, Logout}
@@ -10,6 +10,7 @@ use Rattle.pr_model.specs.Stamps.{Restores}
 use Rattle.pr_model.proofs.HistoryLaws.{after-append, legal-append, faults-append, failures-append}
 use Rattle.pr_model.proofs.Acknowledged.{some_first, some_last, acknowledged_append}
 use Rattle.pr_model.proofs.Moved.{only_steps_move}
+use Rattle.pr_model.proofs.Sizes.{keeps_telling}
 use Rattle.pr_io.specs.Causes.{HasCause, next_fault}
 use Rattle.pr_io.specs.declared.outside.Medium as media
 use Rattle.pr_io.specs.declared.outside.Disk as disks
@@ -23,6 +24,7 @@ use Rattle.pr_core.specs.declared.state.State.{State}
 use Rattle.pr_core.specs.Outs.{out_of, step_out}
 use Rattle.pr_io.specs.Images.{Story}
 use Rattle.pr_aptpl.specs.declared.keeper.Keeper.{Keeper}
+use Rattle.pr_aptpl.specs.Keepers.{is_told}
 use Rattle.pr_aptpl.proofs.Guarding.{goes_as, goes_on}
 use Rattle.pr_core.specs.Counting.{faults_after}
 use Rattle.pr_core.specs.Saves.{Leads}
@@ -53,8 +55,8 @@ pub record Makes {M D : Type 0} {gm : media.Ghosts M} {gd : disks.Ghosts D} (old
 
 pub extends_one : {M D : Type 0} {gm : media.Ghosts M} {gd : disks.Ghosts D} (old new : Core M D gm gd) (e : Entry) → blocks_of new ≡ blocks_of old → opening_of new ≡ opening_of old
     → gm.reference (medium_of new) ≡ gm.reference (medium_of old) → gm.faults (medium_of new) ≡ faults_after (faults_by e.out) (gm.faults (medium_of old))
-    → gd.reference (disk_of new) ≡ gd.reference (disk_of old) → gd.faults (disk_of new) ≡ faults_after (failures_by e.out) (gd.faults (disk_of old)) → Makes old new e → Extends old new (e ∷ [])
-extends_one {M} {D} {gm} {gd} old new e same opening medium counted disk saved makes =
+    → gd.reference (disk_of new) ≡ gd.reference (disk_of old) → gd.faults (disk_of new) ≡ faults_after (failures_by e.out) (gd.faults (disk_of old)) → is_told new.keeper ≡ is_told old.keeper → Makes old new e → Extends old new (e ∷ [])
+extends_one {M} {D} {gm} {gd} old new e same opening medium counted disk saved told makes =
     record {
       blocks = same;
       opening = opening;
@@ -63,7 +65,7 @@ extends_one {M} {D} {gm} {gd} old new e same opening medium counted disk saved m
       disk = disk;
       saved = saved ∙ ap (λ (k : ℕ). faults_after k (gd.faults (disk_of old))) one_failure;
       legal = λ w is. ((makes.by w is).0, tt);
-      leads = λ w is. let r = makes.by w is in (r.1, r.2, r.3.holds);
+      leads = λ w is. let r = makes.by w is in (r.1, r.2, r.3.holds, record { told = λ tells. told ∙ is.3.told (sym (keeps_telling w e) ∙ tells) });
       stamps = (story_of new).moment ∷ [];
       stamped = λ w is. stamped_one w (makes.by w is).3;
     }
@@ -129,7 +131,7 @@ extends_none c = record {
   stamped = λ w is. record { goes = still_goes (story_of c) (Restores w) (λ bytes may. holds_restores c.keeper w is.2 bytes (inr may)); acknowledged = omega arith };
 }
 
-faults_more : (i j count : ℕ) → faults_after (i + j) count ≡ faults_after j (faults_after i count)
+pub faults_more : (i j count : ℕ) → faults_after (i + j) count ≡ faults_after j (faults_after i count)
 faults_more zero j count = let none : zero + j ≡ j = omega arith in ap (λ (k : ℕ). faults_after k count) none
 faults_more (suc i) j count =
     let next : suc i + j ≡ suc (i + j) = omega arith in ap (λ (k : ℕ). faults_after k count) next ∙ faults_more i j (next_fault count)

@@ -12,3 +12,4 @@ pub mod Owned
 pub mod StepLaws
 pub mod Settled
 pub mod Asked
+pub mod Powering

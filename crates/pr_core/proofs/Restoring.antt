@@ -14,6 +14,7 @@ use Rattle.pr_model.specs.Limits.{LIMIT}
 use Rattle.pr_model.specs.Registrants.{IsWellFormed}
 use Rattle.pr_model.specs.Attentions.{powered_on}
 use Rattle.pr_model.specs.Worlds.{Blocks, Task, opened, restored, is_known}
+use Rattle.pr_model.proofs.Came.{same_self}
 use Rattle.pr_model.proofs.Orders.{same_is}
 use Rattle.pr_param.proofs.Holders.{drop_front}
 use Rattle.pr_aptpl.specs.Doubts as keepable
@@ -91,9 +92,6 @@ after_owner false n = refl
 after_task : (b : Bool) (n : Nexus) → task_in (cond b (Some (new_seat n)) None) ≡ None
 after_task true n = refl
 after_task false n = refl
-
-same_self : (n : Nexus) → same_nexus n n ≡ true
-same_self n = grind (arith, nat_tests)
 
 turned : (m k : Nexus) → same_nexus m k ≡ same_nexus k m
 turned m k = by (same_nexus m k) (same_nexus k m) refl refl

@@ -17,7 +17,7 @@ use Rattle.pr_model.specs.Histories.{failures_by}
 use Rattle.pr_model.specs.Stamps.{Restores}
 use Rattle.pr_model.proofs.Settling.{asks_nothing}
 use Rattle.pr_aptpl.specs.declared.keeper.Keeper.{Keeper}
-use Rattle.pr_aptpl.specs.Keepers.{StandsFor, story_of, disk_of}
+use Rattle.pr_aptpl.specs.Keepers.{StandsFor, story_of, disk_of, is_told}
 use Rattle.pr_aptpl.proofs.Apart.{apart}
 use Rattle.pr_aptpl.proofs.Saving.{restores_of}
 use Rattle.pr_core.specs.declared.answers.CommandOut.{CommandOut}
@@ -106,16 +106,18 @@ module _ {D : Type 0} {gd : disks.Ghosts D} where
 
   -- where no save failed, the disk has failed as often
   pub counts_still : (k : Keeper D gd) (result : CommandOut) → ((buf : List ℕ) → failures_by (out_of result buf) ≡ 0) → Counts k k result
-  counts_still k result none = record { reference = refl; faults = λ buf. ap (λ (i : ℕ). faults_after i (gd.faults (disk_of k))) (sym (none buf)) }
+  counts_still k result none = record { reference = refl; told = refl; faults = λ buf. ap (λ (i : ℕ). faults_after i (gd.faults (disk_of k))) (sym (none buf)) }
 
-  pub counts_saved : (before now : Keeper D gd) (result : CommandOut) (len : ℕ) → gd.reference (disk_of now) ≡ gd.reference (disk_of before) → gd.faults (disk_of now) ≡ gd.faults (disk_of before) → result ≡ outs.Ended status.Good None len → Counts before now result
-  counts_saved before now result len reference calm told = record {
+  pub counts_saved : (before now : Keeper D gd) (result : CommandOut) (len : ℕ) → gd.reference (disk_of now) ≡ gd.reference (disk_of before) → is_told now ≡ is_told before → gd.faults (disk_of now) ≡ gd.faults (disk_of before) → result ≡ outs.Ended status.Good None len → Counts before now result
+  counts_saved before now result len reference tells calm told = record {
     reference = reference;
+    told = tells;
     faults = λ buf. calm ∙ ap (λ (r : CommandOut). faults_after (failures_by (out_of r buf)) (gd.faults (disk_of before))) (sym told);
   }
 
-  pub counts_unsaved : (before now : Keeper D gd) (result : CommandOut) → gd.reference (disk_of now) ≡ gd.reference (disk_of before) → gd.faults (disk_of now) ≡ next_fault (gd.faults (disk_of before)) → ((buf : List ℕ) → out_of result buf ≡ checking target_failure) → Counts before now result
-  counts_unsaved before now result reference once out = record {
+  pub counts_unsaved : (before now : Keeper D gd) (result : CommandOut) → gd.reference (disk_of now) ≡ gd.reference (disk_of before) → is_told now ≡ is_told before → gd.faults (disk_of now) ≡ next_fault (gd.faults (disk_of before)) → ((buf : List ℕ) → out_of result buf ≡ checking target_failure) → Counts before now result
+  counts_unsaved before now result reference tells once out = record {
     reference = reference;
+    told = tells;
     faults = λ buf. once ∙ ap (λ (o : Out). faults_after (failures_by o) (gd.faults (disk_of before))) (sym (out buf));
   }

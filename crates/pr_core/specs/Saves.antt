@@ -10,7 +10,7 @@ use Rattle.pr_model.specs.Saving.{restorable, asks_to_save, doubted, settled, Ma
 use Rattle.pr_model.specs.Histories.{MayFollow, moved, failures_by}
 use Rattle.pr_model.specs.Stamps.{Restores}
 use Rattle.pr_aptpl.specs.declared.keeper.Keeper.{Keeper}
-use Rattle.pr_aptpl.specs.Keepers.{StandsFor, story_of, disk_of, is_in_doubt}
+use Rattle.pr_aptpl.specs.Keepers.{StandsFor, story_of, disk_of, is_in_doubt, is_told}
 use Rattle.pr_core.specs.declared.answers.CommandOut.{CommandOut}
 use Rattle.pr_core.specs.declared.state.State.{State}
 use Rattle.pr_core.specs.Counting.{faults_after}
@@ -22,6 +22,10 @@ module _ {D : Type 0} {gd : disks.Ghosts D} where
   pub record Holds (k : Keeper D gd) (w : World) : Type 0 where
     pub stands : StandsFor k (restorable w)
     pub doubt : is_in_doubt k ≡ not (is_empty w.doubts)
+
+  -- its disk tells what a read gives, where the file is known to tell it
+  pub record Tells (k : Keeper D gd) (w : World) : Type 0 where
+    pub told : w.file_tells ≡ true → is_told k ≡ true
 
   -- a call leads from one world to another: whatever a power loss leaves since then restores what may be restored in one of the two, and in the end in the second
   pub record Leads (before now : Keeper D gd) (w v : World) : Type 0 where
@@ -39,9 +43,10 @@ module _ {D : Type 0} {gd : disks.Ghosts D} where
     pub depicts : Depicts new (settled w a out)
     pub leads : Leads before now w (settled w a out)
 
-  -- it is over the same disk, which has failed as often, but once more where the save failed
+  -- it is over the same disk, which tells as much and has failed as often, but once more where the save failed
   pub record Counts (before now : Keeper D gd) (result : CommandOut) : Type 0 where
     pub reference : gd.reference (disk_of now) ≡ gd.reference (disk_of before)
+    pub told : is_told now ≡ is_told before
     pub faults : (buf : List ℕ) → gd.faults (disk_of now) ≡ faults_after (failures_by (out_of result buf)) (gd.faults (disk_of before))
 
   -- each world for which state and keeper stood may be followed by the entry, which leads to one for which they stand now

@@ -1,5 +1,5 @@
 -- Which worlds a core stands for, and which entries it has made.
-use Rattle.std.specs.Prelude.{◌≡◌, ℕ, ◌≤◌, List, Option, Some}
+use Rattle.std.specs.Prelude.{◌≡◌, ℕ, ◌≤◌, List, Option, Some, None}
 use Rattle.pr_words.specs.declared.nexus.Nexus.{Nexus}
 use Rattle.pr_grammar.specs.Files.{Keeps, file_restores}
 use Rattle.pr_model.specs.Keeping.{Kept}
@@ -13,15 +13,18 @@ use Rattle.pr_io.specs.declared.outside.Medium as media
 use Rattle.pr_io.specs.declared.outside.Disk as disks
 use Rattle.pr_core.specs.declared.target.Core.{Core}
 use Rattle.pr_aptpl.specs.Keepers as keepers
+use Rattle.pr_aptpl.specs.declared.fault.OpenFault.{OpenFault}
+use Rattle.pr_aptpl.specs.declared.fault.OpenFault.TheVariants.{BadFile}
 pub use Rattle.pr_core.specs.Counting.{faults_after}
-use Rattle.pr_core.specs.Saves.{Holds}
+use Rattle.pr_core.specs.Saves.{Holds, Tells}
 use Rattle.pr_core.specs.States.{Depicts, Progress, owner_at, progress_at, KeepsOthersAt}
 
 -- crates above cite these words and don't look into them
 
--- the world's medium has as many blocks as the core's, which holds what is known of them; and what may be restored in it is what the core's disk restores
+-- the world's medium has as many blocks as the core's, which holds what is known of them; what may be restored in it is what the core's disk restores; and the file is known to tell what it holds only where that disk tells it
 abbrev pub StandsFor : {M D : Type 0} {gm : media.Ghosts M} {gd : disks.Ghosts D} → Core M D gm gd → World → Type 0
-StandsFor {M} {D} {gm} {gd} c w = Depicts c.state w × AreBlocksOf (gm.contents c.medium) w.medium × Holds c.keeper w
+StandsFor {M} {D} {gm} {gd} c w =
+    Depicts c.state w × AreBlocksOf (gm.contents c.medium) w.medium × Holds c.keeper w × Tells c.keeper w
 
 abbrev pub medium_of : {M D : Type 0} {gm : media.Ghosts M} {gd : disks.Ghosts D} → Core M D gm gd → M
 medium_of c = c.medium
@@ -52,6 +55,11 @@ KeepsOthers who old new = KeepsOthersAt who old.state new.state
 -- what a core's disk tells
 abbrev pub story_of : {M D : Type 0} {gm : media.Ghosts M} {gd : disks.Ghosts D} → Core M D gm gd → Story
 story_of {M} {D} {gm} {gd} c = gd.story (disk_of c)
+
+-- a file that breaks the grammar is found after a power loss only where the disk doesn't tell what it holds
+abbrev pub IsUntold : OpenFault → Option Image → Type 0
+IsUntold (BadFile place) now = now ≡ None
+IsUntold fault now = Unit {0}
 
 -- a disk was opened and this was kept: what was read restores it, and so does whatever a power loss leaves since a moment of the opening; nothing was written
 pub record Opens (old new : Story) (k : Kept) : Type 0 where

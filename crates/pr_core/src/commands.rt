@@ -14,7 +14,7 @@ ghost use Rattle.pr_model.specs.Entries.{entry, Command as Commands};
 ghost use Rattle.pr_table.specs.Tables.{standing_of};
 ghost use Rattle.pr_table.specs.Told.{requested};
 ghost use Rattle.pr_aptpl.specs.Doubts.{HavePorts};
-ghost use Rattle.pr_aptpl.specs.Keepers.{disk_of};
+ghost use Rattle.pr_aptpl.specs.Keepers.{disk_of, is_told};
 ghost use Rattle.pr_core.specs.Seats.{seat_of};
 ghost use Rattle.pr_core.specs.Outs.{out_of, IsProper, IsEnded, IsFed, Begins, LeavesData};
 ghost use Rattle.pr_core.specs.Fitting.{Fits};
@@ -49,6 +49,7 @@ fn save<D: Disk>(keeper: &mut Keeper<D>, table: &Table, keeps: bool) -> Result<(
         → keeps ≡ not (same_kept (kept w.standing) (kept v.standing))
         → SavesTo keeper.old keeper.new w v result }
     ensures reference { D.reference (disk_of keeper.new) ≡ D.reference (disk_of keeper.old) }
+    ensures told { is_told keeper.new ≡ is_told keeper.old }
     ensures cause { HasCause (D.faults (disk_of keeper.old)) (D.faults (disk_of keeper.new))
         result }
 {

@@ -1,11 +1,15 @@
-ghost use Rattle.std.specs.Prelude.{◌≡◌, ◌<◌, ◌≤◌, ◌∷◌, [], ℕ, Bool, List, Some, None, is_some, true, IfOk, IfErr, length, take};
-ghost use Rattle.pr_model.specs.Worlds.{Blocks, opened};
+ghost use Rattle.std.specs.Prelude.{◌≡◌, ◌<◌, ◌≤◌, ◌∷◌, ◌^◌, [], ℕ, Bool, List, Some, None, is_some, true, false, IfOk, IfErr, MatchResult, length, take};
+ghost use Rattle.pr_model.specs.Worlds.{Blocks, World, opened};
+ghost use Rattle.pr_model.specs.Keeping.{Kept as Kepts};
 ghost use Rattle.pr_grammar.specs.Files.{file_head, file_layout};
 ghost use Rattle.pr_io.specs.Images.{Stays};
 ghost use Rattle.pr_aptpl.specs.Opens.{FailsAt, IsFaultOf};
-ghost use Rattle.pr_model.specs.Entries.{entry, Login, Command, Step, Logout, Login_code, Left};
+ghost use Rattle.pr_aptpl.specs.Doubts.{IsKeepable};
+ghost use Rattle.pr_aptpl.specs.Keepers as keepers;
+ghost use Rattle.pr_model.specs.Entries.{entry, power_up, Login, Command, Step, Logout, Login_code, Left};
 ghost use Rattle.pr_model.specs.Histories.{AreBlocksOf};
 ghost use Rattle.pr_tasks.specs.Steps.{LeavesBlock};
+ghost use Rattle.pr_core.specs.States.{Depicts};
 ghost use Rattle.pr_core.specs.Outs.{out_of, step_out, IsCarried, IsFed, IsProper, Begins, Progresses, LeavesData};
 
 use crate::answers::CommandOut;
@@ -35,8 +39,38 @@ pub struct Core<M: Medium, D: Disk> {
     ghost size: { M.count medium ≡ state.blocks },
 }
 
+/// What the disk has kept, and what a target over a medium of so many blocks knows after a power-up
+/// that restored it.
+fn restore<D: Disk>(
+    alloc: Global,
+    disk: D,
+    blocks: u64,
+) -> Result<(Keeper<D>, State, Kept), (OpenFault, D)>
+    requires some { 1 ≤ blocks }
+    requires most { blocks ≤ 2 ^ 40 }
+    ensures opens { IfOk result (λ r. keepers.Opens (D.story disk) r.0 r.2) }
+    ensures sound { IfOk result (λ r. IsKeepable r.2) }
+    ensures depicts { IfOk result (λ r. (m : Blocks) (tells : Bool) → m.count ≡ blocks
+        → Depicts r.1 (opened m tells r.2)) }
+    ensures blocks { IfOk result (λ r. r.1.blocks ≡ blocks) }
+    ensures calm { IfOk result (λ r. (D.faults (keepers.disk_of r.0) ≡ D.faults disk)
+        × (keepers.is_in_doubt r.0 ≡ false)) }
+    ensures reference { MatchResult result
+        (λ r. D.reference (keepers.disk_of r.0) ≡ D.reference disk)
+        (λ e. D.reference e.1 ≡ D.reference disk) }
+    ensures fails { IfErr result (λ e. FailsAt file_head file_layout e.0 (D.story disk)
+        × Stays (D.story disk) (D.story e.1)) }
+    ensures fault { IfErr result (λ e. IsFaultOf e.0 (D.faults disk) (D.faults e.1)) }
+{
+    let (keeper, kept) = Keeper::open(alloc, disk)?;
+    match State::restored(alloc, &kept, blocks) {
+        Ok(state) => Ok((keeper, state, kept)),
+        Err(_) => Err((OpenFault::OutOfMemory, keeper.into_disk())),
+    }
+}
+
 impl<M: Medium, D: Disk> Core<M, D> {
-    ghost use Rattle.pr_core.specs.View.{StandsFor, Opens, medium_of, disk_of, story_of, blocks_of, opening_of, owner_of, progress_of, KeepsOthers, Extends};
+    ghost use Rattle.pr_core.specs.View.{StandsFor, IsUntold, Opens, medium_of, disk_of, story_of, blocks_of, opening_of, owner_of, progress_of, KeepsOthers, Extends};
 
     /// The target after a power-up, with what the disk has kept (SPC-4, preserving persistent
     /// reservations). All memory is taken here: of 64 registrations and of 256 known nexuses. The
@@ -48,7 +82,9 @@ impl<M: Medium, D: Disk> Core<M, D> {
     /// failed, and want of memory, each with the parts handed back.
     pub fn open(alloc: Global, medium: M, disk: D) -> Result<Core<M, D>, (OpenFault, M, D)>
         ensures stands { IfOk result (λ c. (m : Blocks) (tells : Bool) → m.count ≡ M.count medium
-            → AreBlocksOf (M.contents medium) m → StandsFor c (opened m tells (opening_of c))) }
+            → AreBlocksOf (M.contents medium) m
+            → (tells ≡ true → is_some (D.story disk).now ≡ true)
+            → StandsFor c (opened m tells (opening_of c))) }
         ensures opens { IfOk result (λ c. Opens (D.story disk) (story_of c) (opening_of c)) }
         ensures blocks { IfOk result (λ c. blocks_of c ≡ M.count medium) }
         ensures over { IfOk result (λ c. (medium_of c ≡ medium)
@@ -63,12 +99,8 @@ impl<M: Medium, D: Disk> Core<M, D> {
     {
         let medium_faults = medium.faults();
         let disk_faults = disk.faults();
-        let (keeper, kept) = match Keeper::open(alloc, disk) {
-            Ok(opened) => opened,
-            Err((fault, disk)) => return Err((fault, medium, disk)),
-        };
-        match State::restored(alloc, &kept, medium.blocks()) {
-            Ok(state) => Ok(Core {
+        match restore(alloc, disk, medium.blocks()) {
+            Ok((keeper, state, kept)) => Ok(Core {
                 medium,
                 keeper,
                 opening: Opening {
@@ -78,7 +110,41 @@ impl<M: Medium, D: Disk> Core<M, D> {
                 },
                 state,
             }),
-            Err(_) => Err((OpenFault::OutOfMemory, medium, keeper.into_disk())),
+            Err((fault, disk)) => Err((fault, medium, disk)),
+        }
+    }
+
+    /// Power is lost and comes back: the file is opened again as the disk reads, nobody is logged
+    /// in, no task goes on, and each nexus is told of the power-up (SPC-4, preserving persistent
+    /// reservations; SAM-5, power on). The blocks of the medium stay. The memory is taken anew.
+    ///
+    /// # Errors
+    ///
+    /// As `open`, but a `BadFile` only where the disk doesn't tell what it holds.
+    pub fn power(self, alloc: Global) -> Result<Core<M, D>, (OpenFault, M, D)>
+        ensures entry { IfOk result (λ c. (value : Kepts) × Extends self c (power_up value ∷ [])) }
+        ensures parts { IfErr result (λ e. (e.1 ≡ medium_of self)
+            × (D.reference e.2 ≡ D.reference (disk_of self)) × Stays (story_of self) (D.story e.2)) }
+        ensures fails { IfErr result (λ e. FailsAt file_head file_layout e.0 (story_of self)) }
+        ensures untold { IfErr result (λ e. (w : World) → StandsFor self w
+            → IsUntold e.0 (story_of self).now) }
+        ensures fault { IfErr result (λ e. IsFaultOf e.0 (D.faults (disk_of self))
+            (D.faults e.2)) }
+    {
+        let Core {
+            medium,
+            keeper,
+            opening,
+            state: _,
+        } = self;
+        match restore(alloc, keeper.into_disk(), medium.blocks()) {
+            Ok((keeper, state, _)) => Ok(Core {
+                medium,
+                keeper,
+                opening,
+                state,
+            }),
+            Err((fault, disk)) => Err((fault, medium, disk)),
         }
     }
 

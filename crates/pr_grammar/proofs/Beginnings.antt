@@ -1,10 +1,10 @@
 -- The first bytes of a record are those that more bytes can make one.
-use Rattle.std.proofs.Common.{◌≡◌, ℕ, ◌+◌, ◌*◌, ◌-◌, ◌≤◌, ◌<◌, ◌^◌, true, false, ltb, List, [], ◌∷◌, ◌++◌, length, take, drop, slice_index, All, refl, sym, ap, ◌∙◌, arith, inl, inr, subst, replicate, lit<}
+use Rattle.std.proofs.Common.{◌⊎◌, ◌≡◌, ℕ, ◌+◌, ◌*◌, ◌-◌, ◌≤◌, ◌<◌, ◌^◌, true, false, ltb, List, [], ◌∷◌, ◌++◌, length, take, drop, slice_index, All, refl, sym, ap, ◌∙◌, arith, inl, inr, subst, replicate, lit<}
 use Rattle.std.specs.Int.{w16, from_be_bytes, to_be_bytes}
 use Rattle.std.proofs.lemmas.Bool.{lt-ltb, cases_lt}
 use Rattle.std.proofs.lemmas.List.{length-take-le, length-replicate, length-append, take-append-drop, get_or_append_left, get_or-append_right, get_or-replicate, get_or_past}
 use Rattle.std.proofs.lemmas.List.Elements.{All-append, All-replicate}
-use Rattle.pr_grammar.specs.Schedules.{Record, Arrival, Step_of, Close_of, IsRecord, spelled_record, can_begin}
+use Rattle.pr_grammar.specs.Schedules.{Record, Arrival, Step_of, Close_of, Power_loss, IsRecord, spelled_record, can_begin}
 use Rattle.pr_grammar.specs.Laws.{Becomes, NeverBecomes}
 use Rattle.pr_grammar.proofs.Records.{Begins, begins, begun_before}
 use Rattle.pr_grammar.proofs.Spellings.{IsByte, two_bytes, part_small, small_at}
@@ -13,6 +13,7 @@ begun_spelled : (lanes : ℕ) (r : Record) (rest : List ℕ) → IsRecord lanes 
 begun_spelled lanes (Arrival lane bytes) rest valid = let known : ltb lane lanes ≡ true = lt-ltb lane lanes valid.0 in rw known refl
 begun_spelled lanes (Step_of lane) rest valid = let known : ltb lane lanes ≡ true = lt-ltb lane lanes valid in rw known refl
 begun_spelled lanes (Close_of lane) rest valid = let known : ltb lane lanes ≡ true = lt-ltb lane lanes valid in rw known refl
+begun_spelled lanes Power_loss rest valid = let known : ltb 0 lanes ≡ true = lt-ltb 0 lanes valid in rw known refl
 
 pub never_becomes : NeverBecomes
 never_becomes lanes bytes not_begun more r rest valid is =
@@ -39,17 +40,27 @@ arrival_whole lanes p r s n tail known small is low fits =
     )
 
 -- a record without bytes
-bare_whole : (lanes p q r s : ℕ) (tail : List ℕ) → p < lanes → 1 ≤ q → q < 3 → (r ≡ 0) × (s ≡ 0) → StartsWhole lanes (p ∷ q ∷ r ∷ s ∷ tail)
-bare_whole lanes p q r s tail known some few empty = elim (cases_lt q 2) [
+bare_whole : (lanes p q r s : ℕ) (tail : List ℕ) → p < lanes → 1 ≤ q → q < 4 → (q < 3) ⊎ (p ≡ 0) → (r ≡ 0) × (s ≡ 0) → StartsWhole lanes (p ∷ q ∷ r ∷ s ∷ tail)
+bare_whole lanes p q r s tail known some few where_power empty = elim (cases_lt q 2) [
   | inl step ↦ (
       let one : q ≡ 1 = omega (arith, some) in
       let text : p ∷ q ∷ r ∷ s ∷ tail ≡ p ∷ 1 ∷ 0 ∷ 0 ∷ tail = cc (one, empty.0, empty.1) in
       (Step_of p, tail, known, text)
       )
-  | inr close ↦ (
-      let two : q ≡ 2 = omega (arith, few, close) in
-      let text : p ∷ q ∷ r ∷ s ∷ tail ≡ p ∷ 2 ∷ 0 ∷ 0 ∷ tail = cc (two, empty.0, empty.1) in
-      (Close_of p, tail, known, text)
+  | inr behind ↦ (
+      elim (cases_lt q 3) [
+        | inl close ↦ (
+            let two : q ≡ 2 = omega (arith, close, behind) in
+            let text : p ∷ q ∷ r ∷ s ∷ tail ≡ p ∷ 2 ∷ 0 ∷ 0 ∷ tail = cc (two, empty.0, empty.1) in
+            (Close_of p, tail, known, text)
+            )
+        | inr power ↦ (
+            let three : q ≡ 3 = omega (arith, few, power) in
+            let first : p ≡ 0 = elim where_power [ inl less ↦ absurd (omega (arith, less, power)) | inr first ↦ first ] in
+            let text : p ∷ q ∷ r ∷ s ∷ tail ≡ 0 ∷ 3 ∷ 0 ∷ 0 ∷ tail = cc (first, three, empty.0, empty.1) in
+            (Power_loss, tail, omega (arith, known, first), text)
+            )
+      ]
       )
 ]
 
@@ -66,7 +77,7 @@ starts_whole lanes (p ∷ q ∷ r ∷ s ∷ tail) small begun whole =
           )
       | inr other ↦ (
           let empty : (r ≡ 0) × (s ≡ 0) = elim known.2 [ inl arrival ↦ absurd (omega (arith, arrival, other)) | inr both ↦ both ] in
-          bare_whole lanes p q r s tail known.0 other known.1 empty
+          bare_whole lanes p q r s tail known.0 other known.1 known.3 empty
           )
     ]
 starts_whole lanes _ small begun whole = absurd (omega (arith, whole))

@@ -9,7 +9,7 @@ use Rattle.std.proofs.lemmas.List.Elements.{All-cons, All-head, All-tail}
 use Rattle.std.proofs.Math.Seq.{take-append-add}
 use Rattle.std.proofs.lemmas.Nat.{from_be_bytes-to_be_bytes_2}
 use Rattle.pr_words.specs.Fields.{number16_at}
-use Rattle.pr_grammar.specs.Schedules.{Record, Arrival, Step_of, Close_of, IsRecord, spelled_record, RecordFront, Partial, Faulty, Entire, can_begin, record_at, record_front, IsUnfinished, AreRecords, IsWhole, IsBrokenAt, IsLong}
+use Rattle.pr_grammar.specs.Schedules.{Record, Arrival, Step_of, Close_of, Power_loss, IsRecord, spelled_record, RecordFront, Partial, Faulty, Entire, can_begin, record_at, record_front, IsUnfinished, AreRecords, IsWhole, IsBrokenAt, IsLong}
 
 arrival_front : (lanes lane a b : ℕ) (body rest : List ℕ) → from_be_bytes w16 (a ∷ b ∷ []) ≡ length body → lane < lanes
     → record_front lanes (lane ∷ 0 ∷ a ∷ b ∷ (body ++ rest)) ≡ Entire (Arrival lane body) rest
@@ -40,11 +40,20 @@ close_front lanes lane rest fits =
     let four : ltb (length bytes) 4 ≡ false = le-ltb _ _ (omega arith) in
     rw (known, four) refl
 
+power_front : (lanes : ℕ) (rest : List ℕ) → 0 < lanes → record_front lanes (0 ∷ 3 ∷ 0 ∷ 0 ∷ rest) ≡ Entire Power_loss rest
+unfolding record_front
+power_front lanes rest some =
+    let known : ltb 0 lanes ≡ true = lt-ltb 0 lanes some in
+    let bytes : List ℕ = 0 ∷ 3 ∷ 0 ∷ 0 ∷ rest in
+    let four : ltb (length bytes) 4 ≡ false = le-ltb _ _ (omega arith) in
+    rw (known, four) refl
+
 -- a record that is spelled and then read, with anything behind it
 pub record_front-spelled : (lanes : ℕ) (r : Record) (rest : List ℕ) → IsRecord lanes r → record_front lanes (spelled_record r ++ rest) ≡ Entire r rest
 record_front-spelled lanes (Arrival lane bytes) rest valid = arrival_front lanes lane _ _ bytes rest (from_be_bytes-to_be_bytes_2 (length bytes) valid.1) valid.0
 record_front-spelled lanes (Step_of lane) rest valid = step_front lanes lane rest valid
 record_front-spelled lanes (Close_of lane) rest valid = close_front lanes lane rest valid
+record_front-spelled lanes Power_loss rest valid = power_front lanes rest valid
 
 -- no record stands at the front of nothing
 pub nothing_unfinished : (lanes : ℕ) → IsUnfinished (record_front lanes [])
@@ -92,21 +101,21 @@ short_unfinished lanes bytes short = unfinished_when (can_begin lanes bytes) lan
 
 -- the first four bytes, as far as they have come, can become a record's head
 abbrev pub Begins : ℕ → ℕ → ℕ → ℕ → ℕ → Type 0
-Begins lanes a b c d = (a < lanes) × (b < 3) × ((b ≡ 0) ⊎ ((c ≡ 0) × (d ≡ 0)))
+Begins lanes a b c d = (a < lanes) × (b < 4) × ((b ≡ 0) ⊎ ((c ≡ 0) × (d ≡ 0))) × ((b < 3) ⊎ (a ≡ 0))
 
-pub begins : (lanes a b c d : ℕ) → (ltb a lanes && ltb b 3 && (eqb b 0 || (eqb c 0 && eqb d 0))) ≡ true → Begins lanes a b c d
+pub begins : (lanes a b c d : ℕ) → (ltb a lanes && ltb b 4 && (eqb b 0 || (eqb c 0 && eqb d 0)) && (ltb b 3 || eqb a 0)) ≡ true → Begins lanes a b c d
 begins lanes a b c d is = grind (arith, nat_tests)
 
-begun : (lanes a b c d : ℕ) → Begins lanes a b c d → (ltb a lanes && ltb b 3 && (eqb b 0 || (eqb c 0 && eqb d 0))) ≡ true
+begun : (lanes a b c d : ℕ) → Begins lanes a b c d → (ltb a lanes && ltb b 4 && (eqb b 0 || (eqb c 0 && eqb d 0)) && (ltb b 3 || eqb a 0)) ≡ true
 begun lanes a b c d is = grind (arith, nat_tests)
 
 -- each field may be zero, so the front of what can become a record can become one
 pub begun_before : (lanes : ℕ) (bytes more : List ℕ) → can_begin lanes (bytes ++ more) ≡ true → can_begin lanes bytes ≡ true
-begun_before lanes [] more is = let known : Begins lanes (slice_index more 0) (slice_index more 1) (slice_index more 2) (slice_index more 3) = begins lanes (slice_index more 0) (slice_index more 1) (slice_index more 2) (slice_index more 3) is in begun lanes 0 0 0 0 (omega (arith, known.0), omega arith, inl refl)
-begun_before lanes (a ∷ []) more is = let known : Begins lanes a (slice_index more 0) (slice_index more 1) (slice_index more 2) = begins lanes a (slice_index more 0) (slice_index more 1) (slice_index more 2) is in begun lanes a 0 0 0 (known.0, omega arith, inl refl)
-begun_before lanes (a ∷ b ∷ []) more is = let known : Begins lanes a b (slice_index more 0) (slice_index more 1) = begins lanes a b (slice_index more 0) (slice_index more 1) is in begun lanes a b 0 0 (known.0, known.1, inr (refl, refl))
+begun_before lanes [] more is = let known : Begins lanes (slice_index more 0) (slice_index more 1) (slice_index more 2) (slice_index more 3) = begins lanes (slice_index more 0) (slice_index more 1) (slice_index more 2) (slice_index more 3) is in begun lanes 0 0 0 0 (omega (arith, known.0), omega arith, inl refl, inr refl)
+begun_before lanes (a ∷ []) more is = let known : Begins lanes a (slice_index more 0) (slice_index more 1) (slice_index more 2) = begins lanes a (slice_index more 0) (slice_index more 1) (slice_index more 2) is in begun lanes a 0 0 0 (known.0, omega arith, inl refl, inl (omega arith))
+begun_before lanes (a ∷ b ∷ []) more is = let known : Begins lanes a b (slice_index more 0) (slice_index more 1) = begins lanes a b (slice_index more 0) (slice_index more 1) is in begun lanes a b 0 0 (known.0, known.1, inr (refl, refl), known.3)
 begun_before lanes (a ∷ b ∷ c ∷ []) more is =
-    let known : Begins lanes a b c (slice_index more 0) = begins lanes a b c (slice_index more 0) is in begun lanes a b c 0 (known.0, known.1, elim known.2 [ inl arrival ↦ inl arrival | inr step ↦ inr (step.0, refl) ])
+    let known : Begins lanes a b c (slice_index more 0) = begins lanes a b c (slice_index more 0) is in begun lanes a b c 0 (known.0, known.1, elim known.2 [ inl arrival ↦ inl arrival | inr step ↦ inr (step.0, refl) ], known.3)
 begun_before lanes (a ∷ b ∷ c ∷ d ∷ bytes) more is = is
 
 faulty_when : (is_begun : Bool) (lanes : ℕ) (bytes more : List ℕ) → can_begin lanes (bytes ++ more) ≡ is_begun → can_begin lanes bytes ≡ false → can_begin lanes (bytes ++ more) ≡ false

@@ -4,27 +4,31 @@ use Rattle.std.specs.List.{flat_map}
 use Rattle.std.specs.Int.{w16, to_be_bytes}
 use Rattle.pr_words.specs.Fields.{number16_at}
 
--- bytes arrive on a lane, a lane takes a step, or a lane's connection is closed
+-- bytes arrive on a lane, a lane takes a step, a lane's connection is closed, or power is lost and comes back
 pub data Record : Type 0 where
   Arrival : (lane : ℕ) → (bytes : List ℕ) → Record
   Step_of : (lane : ℕ) → Record
   Close_of : (lane : ℕ) → Record
+  Power_loss : Record
 
 abbrev pub lane_of : Record → ℕ
 lane_of (Arrival lane bytes) = lane
 lane_of (Step_of lane) = lane
 lane_of (Close_of lane) = lane
+lane_of Power_loss = 0
 
 -- a record of a schedule of so many lanes
 abbrev pub IsRecord : ℕ → Record → Type 0
 IsRecord lanes (Arrival lane bytes) = (lane < lanes) × (length bytes < 2 ^ 16)
 IsRecord lanes (Step_of lane) = lane < lanes
 IsRecord lanes (Close_of lane) = lane < lanes
+IsRecord lanes Power_loss = 0 < lanes
 
 abbrev pub spelled_record : Record → List ℕ
 spelled_record (Arrival lane bytes) = (lane ∷ 0 ∷ []) ++ to_be_bytes w16 (length bytes) ++ bytes
 spelled_record (Step_of lane) = lane ∷ 1 ∷ 0 ∷ 0 ∷ []
 spelled_record (Close_of lane) = lane ∷ 2 ∷ 0 ∷ 0 ∷ []
+spelled_record Power_loss = 0 ∷ 3 ∷ 0 ∷ 0 ∷ []
 
 -- what stands at the front of a schedule: what can become a record, what can't, or a record and what is behind it
 pub data RecordFront : Type 0 where
@@ -35,13 +39,15 @@ pub data RecordFront : Type 0 where
 -- whether these can be the first bytes of a record; a byte that hasn't come yet is read as zero, which each field may be
 abbrev pub can_begin : ℕ → List ℕ → Bool
 can_begin lanes bytes =
-    nat_lt (slice_index bytes 0) lanes && nat_lt (slice_index bytes 1) 3
+    nat_lt (slice_index bytes 0) lanes && nat_lt (slice_index bytes 1) 4
     && (slice_index bytes 1 == 0 || (slice_index bytes 2 == 0 && slice_index bytes 3 == 0))
+    && (nat_lt (slice_index bytes 1) 3 || slice_index bytes 0 == 0)
 
 abbrev pub record_at : List ℕ → Record
 record_at bytes =
     if slice_index bytes 1 == 0 then Arrival (slice_index bytes 0) (slice_range bytes 4 (4 + number16_at bytes 2)) else
-    if slice_index bytes 1 == 1 then Step_of (slice_index bytes 0) else Close_of (slice_index bytes 0)
+    if slice_index bytes 1 == 1 then Step_of (slice_index bytes 0) else
+    if slice_index bytes 1 == 2 then Close_of (slice_index bytes 0) else Power_loss
 
 unfoldable pub record_front : ℕ → List ℕ → RecordFront
 record_front lanes bytes =

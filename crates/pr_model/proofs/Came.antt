@@ -35,7 +35,7 @@ use Rattle.pr_model.proofs.Removed.{abort_parts}
 use Rattle.pr_model.proofs.Reaching.{acted_reaches}
 use Rattle.pr_model.proofs.Settling.{settles}
 
-same_self : (n : Nexus) → same_nexus n n ≡ true
+pub same_self : (n : Nexus) → same_nexus n n ≡ true
 same_self n = grind (arith, common_steps)
 
 same_itself : (m n : Nexus) → m ≡ n → same_nexus n m ≡ true

@@ -29,3 +29,4 @@ pub mod Settling
 pub mod Sizes
 pub mod Computed
 pub mod Acknowledged
+pub mod Doubts

@@ -16,7 +16,7 @@ use Rattle.pr_model.proofs.Sizes.{IsStep, others_keep}
 use Rattle.pr_model.proofs.HistoryLaws.{after-append}
 
 pub only_steps_move : OnlyStepsMove
-only_steps_move w who n act out other = others_keep w who n act out (no_step act other)
+only_steps_move w who n act out other = (others_keep w who n act out (no_step act other)).0
   where
     no_step : (act : Act) → ((sent : List ℕ) → act ≡ Step sent → ⊥) → IsStep act → ⊥
     no_step (Login version) other s = s
@@ -92,10 +92,10 @@ spared w e lba none = by e.who e.nexus e.act e.out (λ t now runs here leaves. n
   where
     by : (who : ℕ) (n : Nexus) (act : Act) (out : Out) → ((t : Task) (now : Option (List ℕ)) → w.task n ≡ Some t → next_block t ≡ lba → ActLeaves t.way act out now → ⊥) → (moved_by w who n act out).medium.at lba ≡ w.medium.at lba
     by who n (Step sent) out other = step_elsewhere w n (w.task n) sent out lba other
-    by who n (Login version) out other = ap (λ (m : Blocks). m.at lba) (others_keep w who n (Login version) out (λ x. x))
-    by who n (Command lun cdb sent) out other = ap (λ (m : Blocks). m.at lba) (others_keep w who n (Command lun cdb sent) out (λ x. x))
+    by who n (Login version) out other = ap (λ (m : Blocks). m.at lba) (others_keep w who n (Login version) out (λ x. x)).0
+    by who n (Command lun cdb sent) out other = ap (λ (m : Blocks). m.at lba) (others_keep w who n (Command lun cdb sent) out (λ x. x)).0
     by who n Logout out other = refl
-    by who n Power out other = ap (λ (m : Blocks). m.at lba) (others_keep w who n Power out (λ x. x))
+    by who n Power out other = ap (λ (m : Blocks). m.at lba) (others_keep w who n Power out (λ x. x)).0
 
 pub spared_stay : SparedStay
 spared_stay w [] lba none = refl

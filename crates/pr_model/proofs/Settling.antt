@@ -30,12 +30,13 @@ settles w a out may = by (is_unsaved w a out) refl
     by true is = inr ((and_parts (tells_failure out) (asks_to_save w a) is).0, refl)
     by false is = inl (unsaved may is, refl)
 
--- neither of the two moves a block
-pub settled_keeps : (w : World) (a : Answer) (out : Out) → a.world.medium ≡ w.medium → (settled w a out).medium ≡ w.medium
+-- neither of the two moves a block, or changes whether the file tells what it holds
+pub settled_keeps : (w : World) (a : Answer) (out : Out) → (a.world.medium ≡ w.medium) × (a.world.file_tells ≡ w.file_tells)
+    → ((settled w a out).medium ≡ w.medium) × ((settled w a out).file_tells ≡ w.file_tells)
 settled_keeps w a out same = by (is_unsaved w a out)
   where
-    by : (b : Bool) → (cond b (doubted w a) a.world).medium ≡ w.medium
-    by true = refl
+    by : (b : Bool) → ((cond b (doubted w a) a.world).medium ≡ w.medium) × ((cond b (doubted w a) a.world).file_tells ≡ w.file_tells)
+    by true = (refl, refl)
     by false = same
 
 failure_refuses : (out : Out) → tells_failure out ≡ true → IsRefused out
@@ -82,7 +83,7 @@ answers_settle w n lun cdb sent = by (is_unsaved w a a.out) refl
         absurd (asks_nothing w a (refused_keep w n lun cdb sent (failure_refuses a.out parts.0)) parts.1)
     by false is = refl
 
-none_left : (ks : List Kept) → same_kepts ks [] ≡ is_empty ks
+pub none_left : (ks : List Kept) → same_kepts ks [] ≡ is_empty ks
 none_left [] = refl
 none_left (k ∷ ks) = refl
 

@@ -36,6 +36,10 @@ pub record Entry : Type 0 where
 abbrev pub entry : ℕ → Nexus → Act → Out → Entry
 entry who n act out = record { who = who; nexus = n; act = act; out = out }
 
+-- power that was lost and has come back, with what was restored; it names no nexus
+abbrev pub power_up : Kept → Entry
+power_up value = entry 0 (record { name = 0; port = 0 }) Power (Restored value)
+
 -- oldest first
 abbrev pub History : Type 0
 History = List Entry

@@ -64,18 +64,10 @@ abbrev pub IsLegalFrom : World → History → Type 0
 IsLegalFrom w [] = Unit {0}
 IsLegalFrom w (e ∷ es) = MayFollow w e × IsLegalFrom (moved w e) es
 
--- legal from the opening, over a medium and a file, with what was kept
-abbrev pub IsLegal : Blocks → Bool → Kept → History → Type 0
-IsLegal medium file_tells kept h = IsLegalFrom (opened medium file_tells kept) h
-
 -- what stands on a medium is what it tells of its blocks, wherever that is known; of one that tells nothing a read may give anything
 abbrev pub AreBlocksOf : Option (ℕ → List ℕ) → Blocks → Type 0
 AreBlocksOf None m = m.tells ≡ false
 AreBlocksOf (Some held) m = (lba : ℕ) (bytes : List ℕ) → m.at lba ≡ Some bytes → held lba ≡ bytes
-
--- legal over every medium of so many blocks on which stands what is told of it
-abbrev pub IsLegalOn : ℕ → Option (ℕ → List ℕ) → Bool → Kept → History → Type 0
-IsLegalOn count held file_tells kept h = (medium : Blocks) → medium.count ≡ count → AreBlocksOf held medium → IsLegal medium file_tells kept h
 
 -- how many of the entries are faults of the medium
 abbrev pub faults_by : Out → ℕ

@@ -17,7 +17,8 @@ use Rattle.pr_model.specs.Worlds.{World, restored}
 use Rattle.pr_model.specs.Entries.{Act, Command, Step, History, Out, Login_code, Ended, Started, Wrote, Read, Done, Aborted, Fault, Left, Restored, Entry, entry}
 use Rattle.pr_model.specs.Commands.{attention_check, answered, checking, reserve_out}
 use Rattle.pr_model.specs.Saving.{asks_to_save, settled, target_failure}
-use Rattle.pr_model.specs.Histories.{Has, MayFollow, moved, after, IsLegalFrom}
+use Rattle.pr_model.specs.Histories.{Has, MayFollow, moved, after, failures_in, IsLegalFrom}
+use Rattle.pr_model.specs.Stamps.{Bytes, RestoresSome, KeepsSome}
 use Rattle.pr_model.specs.Fencing.{Began, WasFenced, IsFenced}
 use Rattle.pr_model.specs.Lanes.{Lane, arrived}
 use Rattle.pr_model.specs.Runs.{Deed, TakesTurn}
@@ -60,6 +61,14 @@ HasOneOutcome =
 -- no entry changes how many blocks the medium has
 abbrev pub KeepsSize : Type 0
 KeepsSize = (w : World) (e : Entry) → (moved w e).medium.count ≡ w.medium.count
+
+-- nor whether the registrations' file is known to tell what it holds
+abbrev pub KeepsTelling : Type 0
+KeepsTelling = (w : World) (e : Entry) → (moved w e).file_tells ≡ w.file_tells
+
+-- where nothing is in doubt and no save fails, nothing will be: what restores a value that may be restored at some time restores what is kept then, and no other
+abbrev pub NothingInDoubt : Type 0
+NothingInDoubt = (w : World) (h : History) (bytes : Bytes) → w.doubts ≡ [] → failures_in h ≡ 0 → RestoresSome w h bytes → KeepsSome w h bytes
 
 -- no command of a reservation holder conflicts
 abbrev pub HoldersPass : Type 0

@@ -1,9 +1,10 @@
 -- Whole runs: the records of a schedule act one after another, and lanes take turns (this project's own).
-use Rattle.std.specs.Prelude.{◌≡◌, ℕ, zero, suc, ◌<◌, ◌≤◌, List, [], ◌∷◌, ◌++◌, length, slice_get, slice_set, Some}
-use Rattle.pr_grammar.specs.Schedules.{Record, Arrival, Step_of, Close_of, lane_of}
+use Rattle.std.specs.Prelude.{◌≡◌, ◌⊎◌, ℕ, zero, suc, ◌<◌, ◌≤◌, List, [], ◌∷◌, ◌++◌, length, slice_get, slice_set, replicate, Some}
+use Rattle.pr_grammar.specs.Schedules.{Record, Arrival, Step_of, Close_of, Power_loss, lane_of}
 use Rattle.pr_grammar.specs.Outputs.{output_of}
 use Rattle.pr_model.specs.Limits.{HELD}
-use Rattle.pr_model.specs.Entries.{Logout, Out, Left, History, entry}
+use Rattle.pr_model.specs.Keeping.{Kept}
+use Rattle.pr_model.specs.Entries.{Logout, Out, Left, History, entry, power_up}
 use Rattle.pr_model.specs.Lanes.{Phase, In, Busy, Lane, fresh, Turn, Idle, Silent, Asks, turn, arrived}
 
 -- what was done: the entries made, and the bytes written
@@ -49,11 +50,12 @@ closing who _ = []
 abbrev pub Closes : ℕ → Lane → Deed → Lane → Type 0
 Closes who l d m = (d ≡ deed (closing who l.phase) []) × (m ≡ fresh)
 
--- all that a record does: bytes that arrive are held at its end
+-- all that a record does on its lane: bytes that arrive are held at its end
 abbrev pub RunsRecord : Record → Lane → Deed → Lane → Type 0
 RunsRecord (Arrival who bytes) l d m = ((turns : ℕ) × TakesTurns turns who (arrived l bytes) d m) × (length m.bytes ≤ HELD)
 RunsRecord (Step_of who) l d m = TakesTurn who l d m
 RunsRecord (Close_of who) l d m = Closes who l d m
+RunsRecord Power_loss l d m = ⊥
 
 -- one turn of a lane, of whose output just a front was written: something was lost
 abbrev pub CutsTurn : ℕ → Lane → Deed → Lane → Type 0
@@ -70,17 +72,27 @@ abbrev pub CutsRecord : Record → Lane → Deed → Lane → Type 0
 CutsRecord (Arrival who bytes) l d m = (turns : ℕ) × CutsTurns turns who (arrived l bytes) d m
 CutsRecord (Step_of who) l d m = CutsTurn who l d m
 CutsRecord (Close_of who) l d m = ⊥
+CutsRecord Power_loss l d m = ⊥
 
 -- the record acts on the lane of its number, whose place among the lanes that is
 abbrev pub ActsOn : (Record → Lane → Deed → Lane → Type 0) → Record → List Lane → Deed → List Lane → Type 0
 ActsOn Acts r lanes d next =
     (l : Lane) × (m : Lane) × (slice_get lanes (lane_of r) ≡ Some l) × Acts r l d m × (next ≡ slice_set lanes (lane_of r) m)
 
+-- power is lost and comes back, which nobody is told: all connections are new
+abbrev pub PowersUp : List Lane → Deed → List Lane → Type 0
+PowersUp lanes d next =
+    (value : Kept) × (d ≡ deed (power_up value ∷ []) []) × (next ≡ replicate (length lanes) fresh)
+
+-- what a record does: on the lane of its number, or where power is lost, on all of them
+abbrev pub RunsOn : Record → List Lane → Deed → List Lane → Type 0
+RunsOn r lanes d next = ActsOn RunsRecord r lanes d next ⊎ ((r ≡ Power_loss) × PowersUp lanes d next)
+
 -- a schedule's records, from these lanes on, make these entries, write these bytes and leave those lanes
 abbrev pub IsRun : List Lane → List Record → Deed → List Lane → Type 0
 IsRun lanes [] d last = (d ≡ nothing) × (last ≡ lanes)
 IsRun lanes (r ∷ rs) d last =
-    (first : Deed) × (mid : List Lane) × (rest : Deed) × ActsOn RunsRecord r lanes first mid × IsRun mid rs rest last × (d ≡ joined first rest)
+    (first : Deed) × (mid : List Lane) × (rest : Deed) × RunsOn r lanes first mid × IsRun mid rs rest last × (d ≡ joined first rest)
 
 -- the same, but the last record is cut
 abbrev pub IsCutRun : List Lane → List Record → Deed → List Lane → Type 0

@@ -16,7 +16,7 @@ ghost use Rattle.pr_model.specs.Attentions.{is_attention};
 ghost use Rattle.pr_model.specs.Examples.{Transfers, Conflicts, Marks, Steps, Replies};
 ghost use Rattle.pr_model.specs.BlockLaws.{SparedStay, LastDecides};
 ghost use Rattle.pr_model.specs.Sessions.{TurnsJoin};
-ghost use Rattle.pr_model.specs.Laws.{AbortedIsFenced, AcceptedAreSaved, AnswersSettle, BytesWait, FreePass, HasOneOutcome, HoldersPass, KeepsSize, LegalIsFenced, OnlyStepsMove, RefusalsChangeLittle, RegistrantsPass, RestoredIsKept};
+ghost use Rattle.pr_model.specs.Laws.{AbortedIsFenced, AcceptedAreSaved, AnswersSettle, BytesWait, FreePass, HasOneOutcome, HoldersPass, KeepsSize, KeepsTelling, NothingInDoubt, LegalIsFenced, OnlyStepsMove, RefusalsChangeLittle, RegistrantsPass, RestoredIsKept};
 ghost use Rattle.pr_model.specs.Keeping.{Kept, kept, same_kept, keeps_by, looks_same, same_reservation};
 
 /// Of each PREEMPT exactly one case applies, and it has exactly one answer, which `preempt` is.
@@ -109,9 +109,17 @@ pub fn what_is_saved_is_restored()
     ensures restored { RestoredIsKept }
 {}
 
-/// No entry changes how many blocks the medium has.
+/// No entry changes how many blocks the medium has, or whether the registrations' file tells what it
+/// holds.
 pub fn entries_keep_the_size()
-    ensures { KeepsSize }
+    ensures size { KeepsSize }
+    ensures telling { KeepsTelling }
+{}
+
+/// Where nothing is in doubt and no save fails, whatever a power loss leaves restores what is kept
+/// after some entry, and no other value.
+pub fn no_failure_leaves_a_doubt()
+    ensures { NothingInDoubt }
 {}
 
 /// Bytes that wait behind a full buffer change no turn: they go on waiting behind what is left.

@@ -1,11 +1,11 @@
 -- Lanes in their places.
-use Rattle.std.proofs.Common.{◌≡◌, ℕ, zero, suc, ◌+◌, ◌<◌, List, [], ◌∷◌, ◌++◌, length, Some, refl, sym, ap, ◌∙◌, subst, arith, inl, inr}
+use Rattle.std.proofs.Common.{◌≡◌, ℕ, zero, suc, ◌+◌, ◌<◌, ◌≤◌, List, [], ◌∷◌, ◌++◌, length, Some, refl, sym, ap, ◌∙◌, subst, arith, inl, inr}
 use Rattle.std.specs.Prelude.{slice_get, slice_set, slice_index_or, option_map, replicate}
 use Rattle.std.proofs.lemmas.Option.{slice_get_within, slice_get-map, slice_get-get_or, get_or_from_slice_get}
 use Rattle.std.proofs.lemmas.List.{map-set, map-append, length-map, length-replicate, get_or-replicate, replicate-append-replicate}
 use Rattle.std.proofs.lemmas.Bool.{cases_eq}
 use Rattle.pr_io.specs.Told.{ToldSink}
-use Rattle.pr_grammar.specs.Schedules.{Record, Arrival, Step_of, Close_of, IsRecord, lane_of}
+use Rattle.pr_grammar.specs.Schedules.{Record, Arrival, Step_of, Close_of, Power_loss, IsRecord, lane_of}
 use Rattle.pr_model.specs.Lanes.{Lane, Phase, Fresh, In, Busy, Dead, fresh}
 use Rattle.pr_model.specs.Runs.{Deed, ActsOn}
 use Rattle.pr_io.specs.declared.outside.Medium as media
@@ -70,6 +70,7 @@ pub below : (lanes : ℕ) (r : Record) → IsRecord lanes r → lane_of r < lane
 below lanes (Arrival lane bytes) valid = valid.0
 below lanes (Step_of lane) valid = valid
 below lanes (Close_of lane) valid = valid
+below lanes Power_loss valid = valid
 
 pub session_at : (sessions : List session.Lane) (i : ℕ) (d : session.Lane) → i < length sessions → slice_get (lanes_of sessions) i ≡ Some (sess.lane_of (slice_index_or sessions i d))
 session_at sessions i d within = slice_get-map sess.lane_of sessions i ∙ ap (option_map sess.lane_of) (slice_get-get_or sessions i d within)
@@ -115,3 +116,42 @@ fresh_agree n lanes c is place l found =
 pub fresh_more : (sessions : List session.Lane) (n : ℕ) (s : session.Lane) → lanes_of sessions ≡ replicate n fresh → sess.lane_of s ≡ fresh → lanes_of (sessions ++ s ∷ []) ≡ replicate (n + 1) fresh
 fresh_more sessions n s all is =
     map-append sess.lane_of sessions (s ∷ []) ∙ ap (λ (w : List Lane). w ++ sess.lane_of s ∷ []) all ∙ ap (λ (l : Lane). replicate n fresh ++ l ∷ []) is ∙ replicate-append-replicate n 1 fresh
+
+-- the lanes of the first connections, as many as this, are new ones
+abbrev pub renewed_below : ℕ → List Lane → List Lane
+renewed_below zero lanes = lanes
+renewed_below (suc k) [] = []
+renewed_below (suc k) (l ∷ lanes) = fresh ∷ renewed_below k lanes
+
+one_more : (lanes : List Lane) (k : ℕ) → k < length lanes → slice_set (renewed_below k lanes) k fresh ≡ renewed_below (suc k) lanes
+one_more [] k lt = absurd (omega (arith, lt))
+one_more (l ∷ lanes) zero lt = refl
+one_more (l ∷ lanes) (suc k) lt = ap (λ (ls : List Lane). fresh ∷ ls) (one_more lanes k (omega (arith, lt)))
+
+as_long : (lanes : List Lane) (k : ℕ) → length (renewed_below k lanes) ≡ length lanes
+as_long lanes zero = refl
+as_long [] (suc k) = refl
+as_long (l ∷ lanes) (suc k) = ap suc (as_long lanes k)
+
+all_renewed : (lanes : List Lane) (k : ℕ) → length lanes ≤ k → renewed_below k lanes ≡ replicate (length lanes) fresh
+all_renewed [] zero le = refl
+all_renewed [] (suc k) le = refl
+all_renewed (l ∷ lanes) zero le = absurd (omega (arith, le))
+all_renewed (l ∷ lanes) (suc k) le = ap (λ (ls : List Lane). fresh ∷ ls) (all_renewed lanes k (omega (arith, le)))
+
+pub renewed_long : (old now : List session.Lane) (k : ℕ) → lanes_of now ≡ renewed_below k (lanes_of old) → length now ≡ length old
+renewed_long old now k is = sym (length-map now sess.lane_of) ∙ ap length is ∙ as_long (lanes_of old) k ∙ length-map old sess.lane_of
+
+pub renewed_step : (old now : List session.Lane) (k : ℕ) (t : session.Lane) → lanes_of now ≡ renewed_below k (lanes_of old) → k < length old → sess.lane_of t ≡ fresh → lanes_of (slice_set now k t) ≡ renewed_below (k + 1) (lanes_of old)
+renewed_step old now k t is lt new =
+    let next : suc k ≡ k + 1 = omega arith in
+    let within : k < length (lanes_of old) = omega (arith, lt, length-map old sess.lane_of) in
+    map-set sess.lane_of now k t ∙ ap (λ (l : Lane). slice_set (lanes_of now) k l) new ∙ ap (λ (ls : List Lane). slice_set ls k fresh) is ∙ one_more (lanes_of old) k within ∙ ap (λ (m : ℕ). renewed_below m (lanes_of old)) next
+
+pub renewed_all : (old : List session.Lane) (k : ℕ) → length old ≤ k → renewed_below k (lanes_of old) ≡ replicate (length old) fresh
+renewed_all old k past =
+    let long : length (lanes_of old) ≤ k = omega (arith, past, length-map old sess.lane_of) in
+    all_renewed (lanes_of old) k long ∙ ap (λ (n : ℕ). replicate n fresh) (length-map old sess.lane_of)
+
+pub as_many : (sessions : List session.Lane) → length (lanes_of sessions) ≡ length sessions
+as_many sessions = length-map sessions sess.lane_of

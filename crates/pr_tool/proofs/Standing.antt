@@ -9,24 +9,25 @@ use Rattle.pr_io.specs.Causes.{next_fault}
 use Rattle.pr_io.specs.Images.{Story, Stays}
 use Rattle.pr_io.specs.Told.{ToldMedium, ToldSink, ToldStreams, Told, NoneFailed}
 use Rattle.pr_io.proofs.Pieces.{put_more, took_more, put_nothing, took_nothing}
-use Rattle.pr_grammar.specs.Schedules.{Record, IsRecord, spelled_record}
+use Rattle.pr_grammar.specs.Schedules.{Record, Power_loss, IsRecord, spelled_record}
 use Rattle.pr_grammar.proofs.Records.{not_whole_and_broken, not_whole_and_long, not_broken_and_long, broken_once}
-use Rattle.pr_model.specs.Entries.{History}
+use Rattle.pr_model.specs.Keeping.{Kept}
+use Rattle.pr_model.specs.Entries.{History, power_up}
 use Rattle.pr_model.specs.Lanes.{Lane, fresh}
 use Rattle.pr_model.specs.Runs.{Deed, deed, IsRun, IsCutRun}
 use Rattle.pr_model.proofs.RunLaws.{run-append}
 use Rattle.pr_io.specs.declared.outside.Medium as media
 use Rattle.pr_io.specs.declared.outside.Disk as disks
 use Rattle.pr_core.specs.declared.target.Core.{Core}
-use Rattle.pr_core.specs.View.{Extends}
+use Rattle.pr_core.specs.View.{Extends, disk_of}
 use Rattle.pr_core.proofs.Entering.{extends_none, extends_append}
 use Rattle.pr_tool.specs.Reading.{Stops}
-use Rattle.pr_tool.specs.Exits.{IsServedOn, HasRun, RunEnds, Stands, GoesOn, Causes, IsEarlier, IsUnopened, Decides}
+use Rattle.pr_tool.specs.Exits.{HasRun, RunEnds, EndsUnpowered, HasEnded, Stands, GoesOn, Reopened, LeavesDisk, Causes, IsEarlier, Decides}
 use Rattle.pr_grammar.specs.Files.{file_head, file_layout}
 use Rattle.pr_aptpl.specs.declared.fault.OpenFault.{OpenFault}
 use Rattle.pr_aptpl.specs.declared.fault.OpenFault.TheVariants as faults
 use Rattle.pr_aptpl.specs.Opens.{FailsAt, IsFaultOf}
-use Rattle.pr_tool.specs.Stops.{Did, WasCut, StopsBy, exit_at, exit_of, unopened_of}
+use Rattle.pr_tool.specs.Stops.{Did, LosesPower, WasCut, StopsBy, exit_at, exit_of, unopened_of}
 use Rattle.pr_tool.specs.declared.exit.Exit.{Exit}
 use Rattle.pr_tool.specs.declared.exit.Exit.TheVariants as exits
 use Rattle.pr_tool.specs.declared.schedule.End.{End}
@@ -92,6 +93,26 @@ run_more lanes budget left size c0 c1 c2 a b c before now s did =
       calm = (did.calm.0 ∙ s.calm.0, did.calm.1 ∙ s.calm.1);
     }
 
+-- power was lost and the target was opened again, with new connections
+pub powered : {M D : Type 0} {gm : media.Ghosts M} {gd : disks.Ghosts D} (lanes left : ℕ) (a b : ToldStreams) (c1 c2 c3 : Core M D gm gd) (before mid now : List Lane) (value : Kept)
+    → LosesPower lanes left a b c1 before c2 mid → Extends c2 c3 (power_up value ∷ []) → now ≡ replicate (length mid) fresh → Did lanes left a b c1 before c3 now 4
+powered {M} {D} {gm} {gd} lanes left a b c1 c2 c3 before mid now value loses extends is = record {
+  first = Power_loss;
+  took = loses.took;
+  valid = loses.valid;
+  within = loses.within;
+  ran = record {
+    entries = power_up value ∷ [];
+    output = [];
+    acts = inr (refl, (value, refl, is ∙ ap (λ (w : List Lane). replicate (length w) fresh) loses.lanes_stay));
+    extends = subst (λ (c : Core M D gm gd). Extends c c3 (power_up value ∷ [])) loses.core extends;
+    puts = subst (λ (k : ToldSink). Put a.sink.written k.written []) (sym loses.sink) (put_nothing a.sink.written);
+  };
+  counted = refl;
+  some = omega arith;
+  calm = (loses.faults, ap (λ (k : ToldSink). k.faults) loses.sink);
+}
+
 -- one more record that was cut
 run_cut : {M D : Type 0} {gm : media.Ghosts M} {gd : disks.Ghosts D} (lanes budget left : ℕ) (c0 c1 c2 : Core M D gm gd) (a b c : ToldStreams) (before : List Lane)
     → GoesOn lanes budget left c0 c1 a b before → WasCut lanes left b c c1 before c2 → RunEnds (λ h. Extends c0 c2 h) lanes budget exits.WriteFault a c
@@ -154,6 +175,37 @@ read_stops lanes budget left Broken c0 c1 c2 place a b c now at s stops =
 read_stops lanes budget left TooLong c0 c1 c2 place a b c now at s stops =
     let calm : NoneFailed a c = (stops.1 ∙ s.calm.0, ap (λ (k : ToldSink). k.faults) stops.2 ∙ s.calm.1) in
     (now, stops.0.0, stops.0.1, with_tail (λ h. Extends c0 c1 h) lanes budget a b c now (stops.0.0 ++ stops.0.1) s.run stops.0.2 stops.2, stops.0.3, omega (arith, s.counted, stops.0.4), stops.0.5, calm)
+
+-- where power was lost, and the target couldn't be opened again
+unpowered_ends : {M D : Type 0} {gm : media.Ghosts M} {gd : disks.Ghosts D} (lanes budget left : ℕ) (c0 c1 c2 : Core M D gm gd) (a b c : ToldStreams) (before now : List Lane)
+    → GoesOn lanes budget left c0 c1 a b before → LosesPower lanes left b c c1 before c2 now → EndsUnpowered (λ h. Extends c0 c2 h) lanes budget a c
+unpowered_ends {M} {D} {gm} {gd} lanes budget left c0 c1 c2 a b c before now s loses =
+    subst (λ (k : Core M D gm gd). EndsUnpowered (λ h. Extends c0 k h) lanes budget a c) (sym loses.core) (
+      before,
+      with_tail (λ h. Extends c0 c1 h) lanes budget a b c before (spelled_record Power_loss) s.run loses.took loses.sink,
+      omega (arith, s.counted, loses.within),
+      (loses.faults ∙ s.calm.0, ap (λ (k : ToldSink). k.faults) loses.sink ∙ s.calm.1),
+    )
+
+pub run_unpowered : {M D : Type 0} {gm : media.Ghosts M} {gd : disks.Ghosts D} (lanes budget left : ℕ) (f : OpenFault) (c0 c1 c2 : Core M D gm gd) (a b c : ToldStreams) (before now : List Lane)
+    → GoesOn lanes budget left c0 c1 a b before → LosesPower lanes left b c c1 before c2 now → RunEnds (λ h. Extends c0 c2 h) lanes budget (unopened_of f) a c
+run_unpowered lanes budget left (faults.BadFile place) c0 c1 c2 a b c before now s loses = unpowered_ends lanes budget left c0 c1 c2 a b c before now s loses
+run_unpowered lanes budget left faults.DiskFault c0 c1 c2 a b c before now s loses = unpowered_ends lanes budget left c0 c1 c2 a b c before now s loses
+run_unpowered lanes budget left faults.OutOfMemory c0 c1 c2 a b c before now s loses = unpowered_ends lanes budget left c0 c1 c2 a b c before now s loses
+
+-- the disk that a run leaves, at each exit
+
+pub stops_leave : {M D : Type 0} {gm : media.Ghosts M} {gd : disks.Ghosts D} (s : Stop) (place : ℕ) (core : Core M D gm gd) (disk : D) → disk ≡ disk_of core → LeavesDisk (exit_of s place) core disk
+stops_leave (stop.Read Done) place core disk is = is
+stops_leave (stop.Read ReadFault) place core disk is = is
+stops_leave (stop.Read Broken) place core disk is = is
+stops_leave (stop.Read TooLong) place core disk is = is
+stops_leave stop.Write place core disk is = is
+
+pub unopened_leave : {M D : Type 0} {gm : media.Ghosts M} {gd : disks.Ghosts D} (f : OpenFault) (core : Core M D gm gd) (disk : D) → Reopened f core disk → LeavesDisk (unopened_of f) core disk
+unopened_leave (faults.BadFile place) core disk is = is
+unopened_leave faults.DiskFault core disk is = is
+unopened_leave faults.OutOfMemory core disk is = is
 
 -- the place at which a run stops is what is gone of the budget
 pub run_stops : {M D : Type 0} {gm : media.Ghosts M} {gd : disks.Ghosts D} (lanes budget left : ℕ) (s : Stop) (c0 c1 c2 : Core M D gm gd) (place : ℕ) (a b c : ToldStreams) (now : List Lane) → place + left ≡ budget
@@ -226,9 +278,9 @@ module _ {P Q : History → Type 0} (more : (h : History) → P h → Q h) where
   ends_serve lanes budget exits.ReadFault a b ends = (ends.0, ends.1, run_serves IsRun lanes budget a b ends.0 ends.1 ends.2, ends.3, ends.4, ends.5)
   ends_serve lanes budget exits.WriteFault a b ends = (ends.0, run_serves IsCutRun lanes budget a b ends.0 [] ends.1, ends.2)
   ends_serve lanes budget (exits.BadSchedule place) a b ends = (ends.0, ends.1, run_serves IsRun lanes budget a b ends.0 ends.1 ends.2, ends.3, ends.4, ends.5, ends.6, ends.7)
-  ends_serve lanes budget (exits.BadFile place) a b ends = absurd ends
-  ends_serve lanes budget exits.NoMemory a b ends = absurd ends
-  ends_serve lanes budget exits.DiskFault a b ends = absurd ends
+  ends_serve lanes budget (exits.BadFile place) a b ends = (ends.0, run_serves IsRun lanes budget a b ends.0 (spelled_record Power_loss) ends.1, ends.2, ends.3)
+  ends_serve lanes budget exits.NoMemory a b ends = (ends.0, run_serves IsRun lanes budget a b ends.0 (spelled_record Power_loss) ends.1, ends.2, ends.3)
+  ends_serve lanes budget exits.DiskFault a b ends = (ends.0, run_serves IsRun lanes budget a b ends.0 (spelled_record Power_loss) ends.1, ends.2, ends.3)
   ends_serve lanes budget exits.TooLong a b ends = (ends.0, ends.1, ends.2, run_serves IsRun lanes budget a b ends.0 (ends.1 ++ ends.2) ends.3, ends.4, ends.5, ends.6, ends.7)
 
 -- a run that has begun has a history that was served
@@ -238,22 +290,28 @@ ends_served lanes budget exits.BadWords a b ends = absurd ends
 ends_served lanes budget exits.ReadFault a b ends = (ends.2.entries, ends.2.served)
 ends_served lanes budget exits.WriteFault a b ends = (ends.1.entries, ends.1.served)
 ends_served lanes budget (exits.BadSchedule place) a b ends = (ends.2.entries, ends.2.served)
-ends_served lanes budget (exits.BadFile place) a b ends = absurd ends
-ends_served lanes budget exits.NoMemory a b ends = absurd ends
-ends_served lanes budget exits.DiskFault a b ends = absurd ends
+ends_served lanes budget (exits.BadFile place) a b ends = (ends.1.entries, ends.1.served)
+ends_served lanes budget exits.NoMemory a b ends = (ends.1.entries, ends.1.served)
+ends_served lanes budget exits.DiskFault a b ends = (ends.1.entries, ends.1.served)
 ends_served lanes budget exits.TooLong a b ends = (ends.3.entries, ends.3.served)
 
+-- how often the disk failed when it was opened again, where that is the exit
+abbrev pub more_by : Exit → ℕ
+more_by exits.DiskFault = 1
+more_by _ = 0
+
 -- a run that has begun, among all that stands
-pub ends_stand : (lanes budget : ℕ) (e : Exit) (before after : Told) (s t : Story) → RunEnds (IsServedOn before.medium after.medium before.disk after.disk s t) lanes budget e before.streams after.streams → Stands lanes budget e before after s t
-ends_stand lanes budget exits.Done before after s t ends = ends
-ends_stand lanes budget exits.BadWords before after s t ends = absurd ends
-ends_stand lanes budget exits.ReadFault before after s t ends = ends
-ends_stand lanes budget exits.WriteFault before after s t ends = ends
-ends_stand lanes budget (exits.BadSchedule place) before after s t ends = ends
-ends_stand lanes budget (exits.BadFile place) before after s t ends = absurd ends
-ends_stand lanes budget exits.NoMemory before after s t ends = absurd ends
-ends_stand lanes budget exits.DiskFault before after s t ends = absurd ends
-ends_stand lanes budget exits.TooLong before after s t ends = ends
+pub ends_stand : (Untouched : Type 0) (lanes budget : ℕ) (e : Exit) (before after : Told) (s t : Story) → ((place : ℕ) → e ≡ exits.BadFile place → t.now ≡ None)
+    → HasEnded (more_by e) lanes budget e before after s t → Stands Untouched lanes budget e before after s t
+ends_stand U lanes budget exits.Done before after s t untold ends = ends
+ends_stand U lanes budget exits.BadWords before after s t untold ends = absurd ends
+ends_stand U lanes budget exits.ReadFault before after s t untold ends = ends
+ends_stand U lanes budget exits.WriteFault before after s t untold ends = ends
+ends_stand U lanes budget (exits.BadSchedule place) before after s t untold ends = ends
+ends_stand U lanes budget (exits.BadFile place) before after s t untold ends = inr (untold place refl, ends)
+ends_stand U lanes budget exits.NoMemory before after s t untold ends = inr ends
+ends_stand U lanes budget exits.DiskFault before after s t untold ends = inr ends
+ends_stand U lanes budget exits.TooLong before after s t untold ends = ends
 
 -- a target that couldn't be opened
 
@@ -263,14 +321,14 @@ told_same a b streams medium faults =
     ∙ ap (λ (x : ToldMedium). record { streams = b.streams; medium = x; disk = a.disk }) medium
     ∙ ap (λ (x : ℕ). record { streams = b.streams; medium = b.medium; disk = record { faults = x } }) faults
 
-pub unopened_stands : (lanes budget : ℕ) (f : OpenFault) (e : Exit) (before after : Told) (s t : Story) → e ≡ unopened_of f → after.streams ≡ before.streams → after.medium ≡ before.medium
-    → IsFaultOf f before.disk.faults after.disk.faults → FailsAt file_head file_layout f s → Stays s t → Stands lanes budget e before after s t
-unopened_stands lanes budget (faults.BadFile place) e before after s t is streams medium fault fails stays =
-    subst (λ (x : Exit). Stands lanes budget x before after s t) (sym is) (told_same after before streams medium fault, stays, fails)
-unopened_stands lanes budget faults.DiskFault e before after s t is streams medium fault fails stays =
-    subst (λ (x : Exit). Stands lanes budget x before after s t) (sym is) ((streams, medium, fault.0), stays)
-unopened_stands lanes budget faults.OutOfMemory e before after s t is streams medium fault fails stays =
-    subst (λ (x : Exit). Stands lanes budget x before after s t) (sym is) (told_same after before streams medium fault, stays)
+pub unopened_stands : (Untouched : Type 0) (lanes budget : ℕ) (f : OpenFault) (e : Exit) (before after : Told) (s t : Story) → e ≡ unopened_of f → after.streams ≡ before.streams → after.medium ≡ before.medium
+    → IsFaultOf f before.disk.faults after.disk.faults → FailsAt file_head file_layout f s → Stays s t → Untouched → Stands Untouched lanes budget e before after s t
+unopened_stands U lanes budget (faults.BadFile place) e before after s t is streams medium fault fails stays untouched =
+    subst (λ (x : Exit). Stands U lanes budget x before after s t) (sym is) (inl (untouched, told_same after before streams medium fault, stays, fails))
+unopened_stands U lanes budget faults.DiskFault e before after s t is streams medium fault fails stays untouched =
+    subst (λ (x : Exit). Stands U lanes budget x before after s t) (sym is) (inl (untouched, (streams, medium, fault.0), stays))
+unopened_stands U lanes budget faults.OutOfMemory e before after s t is streams medium fault fails stays untouched =
+    subst (λ (x : Exit). Stands U lanes budget x before after s t) (sym is) (inl (untouched, told_same after before streams medium fault, stays))
 
 pub unopened_causes : (lanes budget : ℕ) (f : OpenFault) (e : Exit) (r : Option (List ℕ)) → e ≡ unopened_of f → Causes lanes e budget r
 unopened_causes lanes budget (faults.BadFile place) e r is = subst (λ (x : Exit). Causes lanes x budget r) (sym is) tt
@@ -298,17 +356,6 @@ not_words P lanes budget (exits.BadFile place) before after ends is = cc
 not_words P lanes budget exits.NoMemory before after ends is = cc
 not_words P lanes budget exits.DiskFault before after ends is = cc
 not_words P lanes budget exits.TooLong before after ends is = cc
-
-pub not_unopened : (P : History → Type 0) (lanes budget : ℕ) (e : Exit) (before after : ToldStreams) → RunEnds P lanes budget e before after → IsUnopened e → ⊥
-not_unopened P lanes budget exits.Done before after ends is = is
-not_unopened P lanes budget exits.BadWords before after ends is = is
-not_unopened P lanes budget exits.ReadFault before after ends is = is
-not_unopened P lanes budget exits.WriteFault before after ends is = is
-not_unopened P lanes budget (exits.BadSchedule place) before after ends is = is
-not_unopened P lanes budget (exits.BadFile place) before after ends is = ends
-not_unopened P lanes budget exits.NoMemory before after ends is = ends
-not_unopened P lanes budget exits.DiskFault before after ends is = ends
-not_unopened P lanes budget exits.TooLong before after ends is = is
 
 -- the causes exclude each other
 pub causes_decide : (lanes : ℕ) (e : Exit) (budget : ℕ) (r : Option (List ℕ)) → 0 < lanes → Causes lanes e budget r → Decides lanes e budget r

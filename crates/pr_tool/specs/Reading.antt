@@ -1,23 +1,33 @@
 -- What the reading of one record of a schedule takes and gives (this project's own).
 use Rattle.std.specs.Prelude.{◌≡◌, ℕ, ◌<◌, ◌≤◌, ◌⊎◌, List, [], ◌++◌, length, take, Option, Some, None, Result, Ok, Err, Bool, true, false, if◌then◌else◌}
 use Rattle.pr_io.specs.Streams.{Took}
-use Rattle.pr_grammar.specs.Schedules.{Record, Arrival, Step_of, Close_of, IsRecord, spelled_record, Partial, Faulty, record_front, IsUnfinished}
+use Rattle.pr_grammar.specs.Schedules.{Record, Arrival, Step_of, Close_of, Power_loss, IsRecord, spelled_record, Partial, Faulty, record_front, IsUnfinished}
+use Rattle.pr_tool.specs.declared.schedule.LaneRecord.{LaneRecord}
+use Rattle.pr_tool.specs.declared.schedule.LaneRecord.TheVariants.{Arrival as Arrived, Step as Stepped, Close as Closed}
 use Rattle.pr_tool.specs.declared.schedule.Record.{Record as Found}
-use Rattle.pr_tool.specs.declared.schedule.Record.TheVariants.{Arrival as Arrived, Step as Stepped, Close as Closed}
+use Rattle.pr_tool.specs.declared.schedule.Record.TheVariants.{OfLane, Power}
 use Rattle.pr_tool.specs.declared.schedule.End.{End}
 use Rattle.pr_tool.specs.declared.schedule.End.TheVariants.{Done, ReadFault, Broken, TooLong}
 
 -- the record that was read, with its bytes in the front of the buffer (this project's own)
+abbrev pub lane_record_of : LaneRecord → List ℕ → Record
+lane_record_of (Arrived lane len) body = Arrival lane (take len body)
+lane_record_of (Stepped lane) body = Step_of lane
+lane_record_of (Closed lane) body = Close_of lane
+
 abbrev pub record_of : Found → List ℕ → Record
-record_of (Arrived lane len) body = Arrival lane (take len body)
-record_of (Stepped lane) body = Step_of lane
-record_of (Closed lane) body = Close_of lane
+record_of (OfLane found) body = lane_record_of found body
+record_of Power body = Power_loss
 
 -- its bytes are within the buffer's front that a record may fill (this project's own)
+abbrev pub IsHeldOf : LaneRecord → Type 0
+IsHeldOf (Arrived lane len) = len ≤ 65535
+IsHeldOf (Stepped lane) = Unit {0}
+IsHeldOf (Closed lane) = Unit {0}
+
 abbrev pub IsHeld : Found → Type 0
-IsHeld (Arrived lane len) = len ≤ 65535
-IsHeld (Stepped lane) = Unit {0}
-IsHeld (Closed lane) = Unit {0}
+IsHeld (OfLane found) = IsHeldOf found
+IsHeld Power = Unit {0}
 
 -- where it is told, nothing is left (this project's own)
 abbrev pub IsAtEnd : Option (List ℕ) → Type 0

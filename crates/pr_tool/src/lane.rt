@@ -50,6 +50,13 @@ impl Lane {
         close(&mut self.session, core, who);
     }
 
+    /// The connection is a new one, in the same memory: the target has lost power.
+    pub fn renew(&mut self)
+        ensures { lane_of self.new ≡ lanes.fresh }
+    {
+        self.session.fresh();
+    }
+
     /// Takes the first bytes, as many as there is room for, and says how many. A dead lane drops
     /// all.
     pub fn feed(&mut self, bytes: &[u8]) -> usize

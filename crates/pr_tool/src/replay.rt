@@ -5,19 +5,19 @@ ghost use Rattle.pr_grammar.specs.Schedules as schedules;
 ghost use Rattle.pr_model.specs.Lanes.{fresh};
 ghost use Rattle.pr_model.specs.Lanes as model;
 ghost use Rattle.pr_model.specs.Runs.{RunsRecord, CutsRecord, ActsOn};
-ghost use Rattle.pr_core.specs.View.{medium_of, disk_of, KeepsOthers, Extends};
-ghost use Rattle.pr_tool.specs.Reading.{record_of, IsHeld, Reads};
+ghost use Rattle.pr_core.specs.View.{medium_of, disk_of, KeepsOthers};
+ghost use Rattle.pr_tool.specs.Reading.{lane_record_of, IsHeldOf, Reads};
 ghost use Rattle.pr_tool.specs.Lanes.{lane_of, lanes_of};
 ghost use Rattle.pr_session.specs.Driving.{Agrees, AllAgree};
 ghost use Rattle.pr_tool.specs.Counting.{faults_read};
-ghost use Rattle.pr_tool.specs.Exits.{Ran, RunEnds, Stands, Causes, Decides, IsUnopened};
+ghost use Rattle.pr_tool.specs.Exits.{Ran, RunEnds, Leaves, Stands, Causes, Decides};
 ghost use Rattle.pr_tool.specs.Stops.{exit_of, unopened_of, RunsOne};
 ghost use Rattle.pr_tool.specs.Asking.{AsksReplay};
 
 use crate::asking::lanes_asked;
 use crate::exit::Exit;
 use crate::lane::Lane;
-use crate::schedule::{End, Record, read_record};
+use crate::schedule::{End, LaneRecord, Record, read_record};
 use pr_core::{Core, OpenFault};
 use pr_io::{Disk, Failed, Medium, Sink, Source};
 use std::alloc::{AllocError, Global};
@@ -60,28 +60,28 @@ fn act<K: Sink, M: Medium, D: Disk>(
     sink: &mut K,
     core: &mut Core<M, D>,
     lane: &mut Lane,
-    found: Record,
+    found: LaneRecord,
     body: &[u8],
 ) -> Result<(), Failed>
     requires agrees { Agrees (lane_of lane.old).phase
-        (schedules.lane_of (record_of found body.now)) core.old }
-    requires held { IsHeld found }
+        (schedules.lane_of (lane_record_of found body.now)) core.old }
+    requires held { IsHeldOf found }
     requires room { 65535 ≤ length body.now }
-    ensures all { OnOk result (Ran (RunsRecord (record_of found body.now))
+    ensures all { OnOk result (Ran (RunsRecord (lane_record_of found body.now))
         (told_sink K.Sink sink.old) (told_sink K.Sink sink.new)
         core.old (lane_of lane.old) core.new (lane_of lane.new)) }
-    ensures some { OnErr result ((m : model.Lane) × Ran (CutsRecord (record_of found body.now))
+    ensures some { OnErr result ((m : model.Lane) × Ran (CutsRecord (lane_record_of found body.now))
         (told_sink K.Sink sink.old) (told_sink K.Sink sink.new) core.old
         (lane_of lane.old) core.new m) }
     ensures agrees { Agrees (lane_of lane.new).phase
-        (schedules.lane_of (record_of found body.now)) core.new }
-    ensures others { KeepsOthers (schedules.lane_of (record_of found body.now)) core.old core.new }
+        (schedules.lane_of (lane_record_of found body.now)) core.new }
+    ensures others { KeepsOthers (schedules.lane_of (lane_record_of found body.now)) core.old core.new }
     ensures cause { HasCause (K.faults sink.old) (K.faults sink.new) result }
 {
     match found {
-        Record::Arrival { lane: who, len } => arrive(sink, core, lane, who, &body[..len]),
-        Record::Step { lane: who } => lane.turn(sink, core, who),
-        Record::Close { lane: who } => {
+        LaneRecord::Arrival { lane: who, len } => arrive(sink, core, lane, who, &body[..len]),
+        LaneRecord::Step { lane: who } => lane.turn(sink, core, who),
+        LaneRecord::Close { lane: who } => {
             lane.close(core, who as u64);
             Ok(())
         }
@@ -93,18 +93,18 @@ fn act_on<K: Sink, M: Medium, D: Disk>(
     sink: &mut K,
     core: &mut Core<M, D>,
     lanes: &mut [Lane],
-    found: Record,
+    found: LaneRecord,
     body: &[u8],
 ) -> Result<(), Failed>
     requires agree { AllAgree (lanes_of lanes.old) core.old }
-    requires held { IsHeld found }
+    requires held { IsHeldOf found }
     requires room { 65535 ≤ length body.now }
-    requires valid { schedules.IsRecord (length lanes.old) (record_of found body.now) }
-    ensures all { OnOk result (Ran (ActsOn RunsRecord (record_of found body.now))
+    requires valid { schedules.IsRecord (length lanes.old) (lane_record_of found body.now) }
+    ensures all { OnOk result (Ran (ActsOn RunsRecord (lane_record_of found body.now))
         (told_sink K.Sink sink.old) (told_sink K.Sink sink.new)
         core.old (lanes_of lanes.old) core.new (lanes_of lanes.new)) }
     ensures some { OnErr result ((last : List model.Lane)
-        × Ran (ActsOn CutsRecord (record_of found body.now))
+        × Ran (ActsOn CutsRecord (lane_record_of found body.now))
         (told_sink K.Sink sink.old) (told_sink K.Sink sink.new) core.old
         (lanes_of lanes.old) core.new last) }
     ensures agree { AllAgree (lanes_of lanes.new) core.new }
@@ -113,6 +113,15 @@ fn act_on<K: Sink, M: Medium, D: Disk>(
 {
     let lane = &mut lanes[found.lane() as usize];
     act(sink, core, lane, found, body)
+}
+
+/// What came of a record that was read.
+#[derive(Clone, Copy, Debug)]
+enum Event {
+    /// It acted on its lane, and takes so many bytes of the schedule.
+    Acted { size: u64 },
+    /// Power is lost, which takes four bytes.
+    PowerLoss,
 }
 
 /// Why a run stops: no record was read, or a reply couldn't be written.
@@ -152,21 +161,21 @@ fn read_into<S: Source>(
     read_record(source, lanes, left, body)
 }
 
-/// How many bytes of a schedule a record takes.
-fn size_of(found: Record) -> u64
-    requires { IsHeld found }
+/// How many bytes of a schedule a record of a lane takes.
+fn size_of(found: LaneRecord) -> u64
+    requires { IsHeldOf found }
     ensures size { (body : List ℕ) → 65535 ≤ length body →
-        result ≡ length (schedules.spelled_record (record_of found body)) }
+        result ≡ length (schedules.spelled_record (lane_record_of found body)) }
     ensures some { 4 ≤ result }
 {
     match found {
-        Record::Arrival { len, .. } => 4 + len as u64,
-        Record::Step { .. } | Record::Close { .. } => 4,
+        LaneRecord::Arrival { len, .. } => 4 + len as u64,
+        LaneRecord::Step { .. } | LaneRecord::Close { .. } => 4,
     }
 }
 
-/// Reads one record and lets it act, of `left` bytes that may still be looked at. The number of
-/// bytes that it took, or why the run stops.
+/// Reads one record, of `left` bytes that may still be looked at, and lets it act, where it is one
+/// of a lane. What came of it, or why the run stops.
 fn run_one<S: Source, K: Sink, M: Medium, D: Disk>(
     source: &mut S,
     sink: &mut K,
@@ -174,7 +183,7 @@ fn run_one<S: Source, K: Sink, M: Medium, D: Disk>(
     lanes: &mut [Lane],
     left: u64,
     body: &mut Vec<u8>,
-) -> Result<u64, Stop>
+) -> Result<Event, Stop>
     requires agree { AllAgree (lanes_of lanes.old) core.old }
     requires most { length lanes.old ≤ 64 }
     requires room { vec_len body.old ≡ 65535 }
@@ -187,37 +196,65 @@ fn run_one<S: Source, K: Sink, M: Medium, D: Disk>(
     ensures room { vec_len body.new ≡ 65535 }
 {
     let found = match read_into(source, lanes.len() as u8, left, body) {
-        Ok(found) => found,
+        Ok(Record::OfLane(found)) => found,
+        Ok(Record::Power) => return Ok(Event::PowerLoss),
         Err(end) => return Err(Stop::Read(end)),
     };
     match act_on(sink, core, lanes, found, body) {
-        Ok(()) => Ok(size_of(found)),
+        Ok(()) => Ok(Event::Acted {
+            size: size_of(found),
+        }),
         Err(_) => Err(Stop::Write),
     }
 }
 
-/// Runs a schedule of which so many bytes are looked at, on these lanes.
+/// All connections are new ones.
+fn renew(lanes: &mut [Lane])
+    ensures fresh { lanes_of lanes.new ≡ replicate (length lanes.old) fresh }
+    ensures count { length lanes.new ≡ length lanes.old }
+{
+    for lane in lanes.iter_mut() {
+        lane.renew();
+    }
+}
+
+/// Runs a schedule of which so many bytes are looked at, on these lanes, and hands disk and medium
+/// back.
 fn run<S: Source, K: Sink, M: Medium, D: Disk>(
+    alloc: Global,
     source: &mut S,
     sink: &mut K,
-    core: &mut Core<M, D>,
+    opened: Core<M, D>,
     lanes: &mut [Lane],
     body: &mut Vec<u8>,
     budget: u64,
-) -> Exit
+) -> (Exit, D, M)
     requires fresh { lanes_of lanes.old ≡ replicate (length lanes.old) fresh }
     requires most { length lanes.old ≤ 64 }
     requires room { vec_len body.old ≡ 65535 }
-    ensures ends { RunEnds (λ h. Extends core.old core.new h) (length lanes.old) budget result
+    ensures ends { RunEnds (λ h. Leaves opened result.0 result.1 result.2 h) (length lanes.old)
+        budget result.0
         (told_streams S.Source K.Sink source.old sink.old)
         (told_streams S.Source K.Sink source.new sink.new) }
-    ensures causes { Causes (length lanes.old) result budget (S.rest source.old) }
+    ensures causes { Causes (length lanes.old) result.0 budget (S.rest source.old) }
 {
+    let mut core = opened;
     let mut left = budget;
     'records: loop {
-        match run_one(source, sink, core, lanes, left, body) {
-            Ok(size) => left -= size,
-            Err(stop) => return stop.exit(budget - left),
+        match run_one(source, sink, &mut core, lanes, left, body) {
+            Ok(Event::Acted { size }) => left -= size,
+            Ok(Event::PowerLoss) => {
+                core = match core.power(alloc) {
+                    Ok(powered) => powered,
+                    Err(parts) => return refused(parts),
+                };
+                renew(lanes);
+                left -= 4;
+            }
+            Err(stop) => {
+                let (disk, medium) = parts_of(core);
+                return (stop.exit(budget - left), disk, medium);
+            }
         }
     }
 }
@@ -272,15 +309,14 @@ fn replay_over<S: Source, K: Sink, M: Medium, D: Disk>(
     disk: D,
 ) -> (Exit, D)
     requires { (1 ≤ lanes) × (lanes ≤ 64) }
-    ensures stands { Stands lanes budget result.0
+    ensures stands { Stands ((source.new ≡ source.old) × (sink.new ≡ sink.old)
+        × (medium.new ≡ medium.old)) lanes budget result.0
         (told S.Source K.Sink M.Medium D.Disk source.old sink.old medium.old disk)
         (told S.Source K.Sink M.Medium D.Disk source.new sink.new medium.new result.1)
         (D.story disk) (D.story result.1) }
     ensures causes { Causes lanes result.0 budget (S.rest source.old) }
     ensures decides { Decides lanes result.0 budget (S.rest source.old) }
     ensures begun { result.0 ≡ Exit.BadWords → ⊥ }
-    ensures untouched { IsUnopened result.0 → (source.new ≡ source.old)
-        × (sink.new ≡ sink.old) × (medium.new ≡ medium.old) }
     ensures disk { D.reference result.1 ≡ D.reference disk }
 {
     let Ok(mut sessions) = fresh_lanes(alloc, lanes) else {
@@ -289,16 +325,24 @@ fn replay_over<S: Source, K: Sink, M: Medium, D: Disk>(
     let Ok(mut body) = vec![in alloc; 0u8; ARRIVAL] else {
         return (Exit::NoMemory, disk);
     };
-    let mut core = match Core::open(alloc, medium, disk) {
-        Ok(core) => core,
+    match Core::open(alloc, medium, disk) {
+        Ok(core) => {
+            let (exit, disk, _medium) = run(
+                alloc,
+                source,
+                sink,
+                core,
+                &mut sessions,
+                &mut body,
+                budget,
+            );
+            (exit, disk)
+        }
         Err(parts) => {
             let (exit, disk, _medium) = refused(parts);
-            return (exit, disk);
+            (exit, disk)
         }
-    };
-    let exit = run(source, sink, &mut core, &mut sessions, &mut body, budget);
-    let (disk, _medium) = parts_of(core);
-    (exit, disk)
+    }
 }
 
 /// Runs a schedule of so many lanes over a target, of whose bytes no more than the budget are
@@ -322,7 +366,8 @@ pub fn replay_within<S: Source, K: Sink, M: Medium, D: Disk>(
     // the medium and the file handed in and fenced; the medium ends with what it says; and power
     // that is lost at any moment restores what a prefix of it left that holds every entry whose
     // moment has passed. Which object failed, and that no fault of one is passed over.
-    ensures stands { Stands lanes budget result
+    ensures stands { Stands ((source.new ≡ source.old) × (sink.new ≡ sink.old)
+        × (medium.new ≡ medium.old)) lanes budget result
         (told S.Source K.Sink M.Medium D.Disk source.old sink.old medium.old disk.old)
         (told S.Source K.Sink M.Medium D.Disk source.new sink.new medium.new disk.new)
         (D.story disk.old) (D.story disk.new) }
@@ -331,8 +376,6 @@ pub fn replay_within<S: Source, K: Sink, M: Medium, D: Disk>(
     ensures causes { Causes lanes result budget (S.rest source.old) }
     ensures decides { Decides lanes result budget (S.rest source.old) }
     ensures begun { result ≡ Exit.BadWords → ⊥ }
-    ensures untouched { IsUnopened result → (source.new ≡ source.old) × (sink.new ≡ sink.old)
-        × (medium.new ≡ medium.old) }
 {
     let (exit, _disk) = replay_over(alloc, lanes, budget, source, sink, medium, disk);
     exit
@@ -364,7 +407,9 @@ pub fn replay_main<S: Source, K: Sink, M: Medium, D: Disk>(
     disk: &mut D,
 ) -> Exit
     ensures words { result ≡ Exit.BadWords ↔ (¬ ((lanes : ℕ) × AsksReplay words.now lanes)) }
-    ensures stands { (lanes : ℕ) → AsksReplay words.now lanes → Stands lanes (2 ^ 32) result
+    ensures stands { (lanes : ℕ) → AsksReplay words.now lanes
+        → Stands ((source.new ≡ source.old) × (sink.new ≡ sink.old)
+        × (medium.new ≡ medium.old)) lanes (2 ^ 32) result
         (told S.Source K.Sink M.Medium D.Disk source.old sink.old medium.old disk.old)
         (told S.Source K.Sink M.Medium D.Disk source.new sink.new medium.new disk.new)
         (D.story disk.old) (D.story disk.new) }
@@ -372,9 +417,8 @@ pub fn replay_main<S: Source, K: Sink, M: Medium, D: Disk>(
         Causes lanes result (2 ^ 32) (S.rest source.old) }
     ensures decides { (lanes : ℕ) → AsksReplay words.now lanes →
         Decides lanes result (2 ^ 32) (S.rest source.old) }
-    ensures untouched { (result ≡ Exit.BadWords) ⊎ IsUnopened result →
-        (source.new ≡ source.old) × (sink.new ≡ sink.old) × (medium.new ≡ medium.old) }
-    ensures unasked { result ≡ Exit.BadWords → disk.new ≡ disk.old }
+    ensures unasked { result ≡ Exit.BadWords → (source.new ≡ source.old)
+        × (sink.new ≡ sink.old) × (medium.new ≡ medium.old) × (disk.new ≡ disk.old) }
 {
     match lanes_asked(words) {
         Some(lanes) => replay_within(alloc, lanes, BUDGET, source, sink, medium, disk),

@@ -2,7 +2,7 @@ ghost use Rattle.std.specs.Prelude.{◌≡◌, ◌≤◌, ◌<◌, ℕ, List, tr
 ghost use Rattle.pr_io.specs.Streams.{Took};
 ghost use Rattle.pr_grammar.specs.Schedules as schedules;
 ghost use Rattle.pr_tool.specs.Counting.{faults_at, faults_read};
-ghost use Rattle.pr_tool.specs.Reading.{record_of, Reads, Stops, Cuts, Ends, end_at};
+ghost use Rattle.pr_tool.specs.Reading.{lane_record_of, Reads, Stops, Cuts, Ends, end_at};
 
 use pr_io::{Source, read_up_to};
 use pr_words::get_u16;
@@ -10,6 +10,15 @@ use pr_words::get_u16;
 /// A record of a schedule, as it was read.
 #[derive(Clone, Copy, Debug, PartialEq, Eq)]
 pub(crate) enum Record {
+    /// A lane's connection brings bytes, is looked at, or is closed.
+    OfLane(LaneRecord),
+    /// Power is lost and comes back.
+    Power,
+}
+
+/// A record that acts on one lane.
+#[derive(Clone, Copy, Debug, PartialEq, Eq)]
+pub(crate) enum LaneRecord {
     /// Bytes arrive on a lane: the first `len` bytes of the buffer that they were read into.
     Arrival { lane: u8, len: usize },
     /// A lane takes a step.
@@ -18,13 +27,15 @@ pub(crate) enum Record {
     Close { lane: u8 },
 }
 
-impl Record {
+impl LaneRecord {
     /// The lane on which it acts.
     pub(crate) fn lane(self) -> u8
-        ensures { (body : List ℕ) → result ≡ schedules.lane_of (record_of self body) }
+        ensures { (body : List ℕ) → result ≡ schedules.lane_of (lane_record_of self body) }
     {
         match self {
-            Record::Arrival { lane, .. } | Record::Step { lane } | Record::Close { lane } => lane,
+            LaneRecord::Arrival { lane, .. }
+            | LaneRecord::Step { lane }
+            | LaneRecord::Close { lane } => lane,
         }
     }
 }
@@ -64,7 +75,8 @@ fn can_begin(lanes: u8, bytes: &[u8]) -> bool
 {
     let kind = byte_at(bytes, 1);
     let is_empty = byte_at(bytes, 2) == 0 && byte_at(bytes, 3) == 0;
-    byte_at(bytes, 0) < lanes && kind < 3 && (kind == 0 || is_empty)
+    let lane = byte_at(bytes, 0);
+    lane < lanes && kind < 4 && (kind == 0 || is_empty) && (kind < 3 || lane == 0)
 }
 
 /// Takes one byte more, to see whether the source has ended where no more is looked at.
@@ -168,12 +180,15 @@ pub(crate) fn read_record<S: Source>(
     let head = read_head(source, lanes, left)?;
     let lane = head[0];
     if head[1] == 1 {
-        return Ok(Record::Step { lane });
+        return Ok(Record::OfLane(LaneRecord::Step { lane }));
     }
     if head[1] == 2 {
-        return Ok(Record::Close { lane });
+        return Ok(Record::OfLane(LaneRecord::Close { lane }));
+    }
+    if head[1] == 3 {
+        return Ok(Record::Power);
     }
     let len = usize::from(get_u16(&head, 2));
     read_body(source, left - 4, &mut body[..len])?;
-    Ok(Record::Arrival { lane, len })
+    Ok(Record::OfLane(LaneRecord::Arrival { lane, len }))
 }

@@ -1,4 +1,3 @@
-use Rattle.std.proofs.Common.{inl, inr}
 use Rattle.pr_tool.specs.Asking.{AsksReplay}
 use Rattle.pr_tool.proofs.replay.replay_main.Goals as goal
 
@@ -12,9 +11,5 @@ returns-in-Some-clause-words g c =
     let asks : AsksReplay c.args.words.now c.in-Some.lanes = (c.lanes_asked.ensures c.in-Some.lanes).0 c.in-Some.is in
     (λ is. absurd (c.replay_within.ensures.begun is), λ other. absurd (other (c.in-Some.lanes, asks)))
 
-pub returns-in-Some-clause-untouched : goal.returns-in-Some-clause-untouched
-returns-in-Some-clause-untouched g c which =
-    elim which [
-      | inl words ↦ absurd (c.replay_within.ensures.begun words)
-      | inr unopened ↦ c.replay_within.ensures.untouched unopened
-    ]
+pub returns-in-Some-clause-unasked : goal.returns-in-Some-clause-unasked
+returns-in-Some-clause-unasked g c words = absurd (c.replay_within.ensures.begun words)

@@ -9,7 +9,7 @@ use Rattle.pr_tool.proofs.replay.run.Given as goal
 abbrev pub invariant-records : goal.invariant-records
 invariant-records g l =
     record {
-      goes : GoesOn (length l.initial.lanes) l.budget l.left l.initial.core l.core (told_streams g.S.Source g.K.Sink l.initial.source l.initial.sink) (told_streams g.S.Source g.K.Sink l.source l.sink) (lanes_of l.lanes);
+      goes : GoesOn (length l.initial.lanes) l.budget l.left l.fn.opened l.core (told_streams g.S.Source g.K.Sink l.initial.source l.initial.sink) (told_streams g.S.Source g.K.Sink l.source l.sink) (lanes_of l.lanes);
       carries : CarriesTold (length l.initial.lanes) l.budget l.left (g.S.Source.rest l.initial.source) (g.S.Source.rest l.source);
       within : l.left ≤ l.budget;
       agree : AllAgree (lanes_of l.lanes) l.core;

@@ -1,4 +1,4 @@
-use Rattle.std.proofs.Common.{◌≡◌, ℕ, [], ◌∷◌, take, sym, subst, lit<}
+use Rattle.std.proofs.Common.{◌≡◌, ◌∙◌, ℕ, [], ◌∷◌, take, sym, subst, lit<}
 use Rattle.pr_grammar.specs.Files.{file_head, file_layout, spelled_slot}
 use Rattle.pr_io.specs.declared.outside.Failed.{Failed}
 use Rattle.pr_model.specs.Keeping.{kept}
@@ -8,6 +8,7 @@ use Rattle.pr_aptpl.specs.declared.aim.Aim.{Aim}
 use Rattle.pr_aptpl.proofs.Apart.{apart}
 use Rattle.pr_aptpl.proofs.Saving.{after_one, after_two, after_three, after_all}
 use Rattle.pr_aptpl.proofs.Spelled.{body_spelled, body_small}
+use Rattle.pr_aptpl.proofs.Telling.{puts_told, closes_told}
 use Rattle.pr_aptpl.proofs.keeper.Keeper.save.Goals as goal
 
 pub returns-in_err-close-clause-saves : goal.returns-in_err-close-clause-saves
@@ -48,3 +49,15 @@ returns-clause-saves g c ks st =
       at_end = e.1;
       stands = subst (λ (a : Aim). Stands file_head file_layout a.target a.turn a.may_be_open (g.D.Disk.story c.open_gate.new.disk) (kept (standing_of c.args.table.now) ∷ [])) (sym c.after-self.ensures) e.2;
     }
+
+pub returns-in_err-close-clause-told : goal.returns-in_err-close-clause-told
+returns-in_err-close-clause-told g c = closes_told c.close.result _ _ _ _ _ c.close.ensures.closes
+
+pub returns-in_err-fill-clause-told : goal.returns-in_err-fill-clause-told
+returns-in_err-fill-clause-told g c = puts_told c.fill.result _ _ _ _ c.fill.ensures.puts ∙ closes_told c.close.result _ _ _ _ _ c.close.ensures.closes
+
+pub returns-in_err-open_gate-clause-told : goal.returns-in_err-open_gate-clause-told
+returns-in_err-open_gate-clause-told g c = puts_told c.open_gate.result _ _ _ _ c.open_gate.ensures.puts ∙ puts_told c.fill.result _ _ _ _ c.fill.ensures.puts ∙ closes_told c.close.result _ _ _ _ _ c.close.ensures.closes
+
+pub returns-clause-told : goal.returns-clause-told
+returns-clause-told g c = puts_told c.open_gate.result _ _ _ _ c.open_gate.ensures.puts ∙ puts_told c.fill.result _ _ _ _ c.fill.ensures.puts ∙ closes_told c.close.result _ _ _ _ _ c.close.ensures.closes

@@ -79,7 +79,7 @@ returns-in-Ok-clause-reserves g c =
     sym (c.in-Good.ensures.keeps ∙ ap (λ (s : Standing). not (same_kept (kept s) (kept (standing_of c.serve.new.self)))) c.copy_from.ensures.standing ∙ ap (λ (s : Standing). not (same_kept (kept (standing_of c.args.self.now.table)) (kept s))) does.standing) in
     reserves_good c.args.keeper.now c.save.new.keeper c.args.self.now c.args.nexus o _ c.save.result _ c.good.result (c.copy_from-in-Ok.ensures.standing ∙ does.standing) refl tells c.in-Good.ensures.abort (c.mark.ensures.count ∙ c.tell.ensures.count) does.tells.0 c.in-Ok.is
     (λ w v holds keeps none is. c.save.ensures.saves w v holds (keeps ∙ sym (ap kept does.standing)) none (sym acts ∙ is))
-    (counts_saved c.args.keeper.now c.save.new.keeper c.good.result _ c.save.ensures.reference c.in-Ok.ensures.cause.calm c.good.ensures) c.good.ensures
+    (counts_saved c.args.keeper.now c.save.new.keeper c.good.result _ c.save.ensures.reference c.save.ensures.told c.in-Ok.ensures.cause.calm c.good.ensures) c.good.ensures
 
 pub returns-in-Err-clause-reserves : goal.returns-in-Err-clause-reserves
 returns-in-Err-clause-reserves g c =
@@ -89,7 +89,7 @@ returns-in-Err-clause-reserves g c =
     sym (c.in-Good.ensures.keeps ∙ ap (λ (s : Standing). not (same_kept (kept s) (kept (standing_of c.serve.new.self)))) c.copy_from.ensures.standing ∙ ap (λ (s : Standing). not (same_kept (kept (standing_of c.args.self.now.table)) (kept s))) does.standing) in
     reserves_unsaved c.args.keeper.now c.save.new.keeper c.args.self.now c.args.nexus o _ c.save.result _ c.checking.result refl refl refl does.tells.0 c.in-Err.is
     (λ w v holds keeps none is. c.save.ensures.saves w v holds (keeps ∙ sym (ap kept does.standing)) none (sym acts ∙ is))
-    (counts_unsaved c.args.keeper.now c.save.new.keeper c.checking.result c.save.ensures.reference c.in-Err.ensures.cause.once c.checking.ensures.out) c.checking.ensures.out
+    (counts_unsaved c.args.keeper.now c.save.new.keeper c.checking.result c.save.ensures.reference c.save.ensures.told c.in-Err.ensures.cause.once c.checking.ensures.out) c.checking.ensures.out
 
 pub returns-in-Ok-clause-owner : goal.returns-in-Ok-clause-owner
 returns-in-Ok-clause-owner g c =

@@ -7,7 +7,7 @@ use Rattle.pr_core.proofs.target.Core.command.Goals as goal
 
 pub returns-clause-entry : goal.returns-clause-entry
 returns-clause-entry g c =
-    extends_one _ _ _ c.command.ensures.blocks refl refl (command_counted _ c.command.result c.command.new.buf) c.command.ensures.counts.reference (c.command.ensures.counts.faults c.command.new.buf)
+    extends_one _ _ _ c.command.ensures.blocks refl refl (command_counted _ c.command.result c.command.new.buf) c.command.ensures.counts.reference (c.command.ensures.counts.faults c.command.new.buf) c.command.ensures.counts.told
     (record {
       by = λ w is.
           let sent = take c.args.out_len c.args.buf.now in

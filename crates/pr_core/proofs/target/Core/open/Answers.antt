@@ -1,15 +1,12 @@
-use Rattle.std.proofs.Common.{[], ◌∷◌, sym, ◌∙◌, subst}
-use Rattle.pr_model.specs.Keeping.{Kept}
-use Rattle.pr_model.proofs.Settling.{restored_is_kept}
-use Rattle.pr_aptpl.specs.Keepers.{StandsFor}
+use Rattle.std.proofs.Common.{Option, is_some, sym, ap, ◌∙◌}
+use Rattle.pr_io.specs.Images.{Image}
+use Rattle.pr_core.proofs.Powering.{opened_holds}
 use Rattle.pr_core.proofs.target.Core.open.Goals as goal
 
-pub returns-in-Ok-restored-clause-stands : goal.returns-in-Ok-restored-clause-stands
-returns-in-Ok-restored-clause-stands g c m tells count blocks = (
-  c.in-Ok-restored.ensures.depicts m tells (count ∙ sym c.blocks-2.ensures.count),
+pub returns-in-Ok-clause-stands : goal.returns-in-Ok-clause-stands
+returns-in-Ok-clause-stands g c m tells count blocks told = (
+  c.in-Ok.ensures.depicts m tells (count ∙ sym c.blocks-2.ensures.count),
   blocks,
-  record {
-    stands = subst (λ (k : Kept). StandsFor c.in-Ok.opened.0 (k ∷ [])) (sym (restored_is_kept c.in-Ok.opened.1)) c.in-Ok.ensures.opens.at.stands;
-    doubt = c.in-Ok.ensures.calm.1;
-  },
+  opened_holds (g.D.Disk.story c.args.disk) c.in-Ok.keeper m tells c.in-Ok.kept c.in-Ok.ensures.opens c.in-Ok.ensures.calm.1,
+  record { told = λ is. ap (λ (o : Option Image). is_some o) c.in-Ok.ensures.opens.stays.now ∙ told is },
 )
