@@ -8,6 +8,7 @@ pub mod Images
 pub mod Spans
 pub mod Streams
 pub mod Told
+pub mod Doors
 pub mod Talks
 pub mod Lines
 pub mod Devices

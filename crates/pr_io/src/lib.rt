@@ -9,10 +9,12 @@ mod blocks;
 mod calls;
 mod devices;
 mod disk_call;
+mod door;
 mod faults;
 mod file_disk;
 mod fresh;
 mod mem_disk;
+mod mem_door;
 mod mem_wire;
 mod memory;
 mod outside;
@@ -24,13 +26,16 @@ mod script_peer;
 mod standard;
 mod sure;
 mod switchboard;
+mod tcp_door;
 mod tcp_wire;
 mod wire;
 mod writing;
 
+pub use door::Door;
 pub use file_disk::FileDisk;
 pub use fresh::{DISK, FRESH_HEAD};
 pub use mem_disk::MemDisk;
+pub use mem_door::MemDoor;
 pub use mem_wire::MemWire;
 pub use memory::{MemMedium, MemSink, MemSource};
 pub use outside::{Disk, Failed, Medium, Sink, Source};
@@ -40,12 +45,15 @@ pub use reading::read_up_to;
 pub use script_peer::ScriptPeer;
 pub use standard::{StdinSource, StdoutSink};
 pub use sure::{SureDisk, SureMedium, SureSink, SureSource};
+pub use tcp_door::{TcpDoor, TcpSink, TcpSource};
 pub use tcp_wire::TcpWire;
 pub use wire::Wire;
 pub use writing::{put_all, put_three, put_two};
 
 #[cfg(test)]
 mod disk_tests;
+#[cfg(test)]
+mod door_tests;
 #[cfg(test)]
 mod tests;
 #[cfg(test)]

@@ -146,11 +146,7 @@ impl<W: Write + Drop> Sink for StdoutSink<W> {
         ensures told { WriteAppends (W.contents self.old.writer)
             (W.contents self.new.writer) result piece.now }
     {
-        let n = write_some(&mut self.writer, piece, &mut self.faults)?;
-        if n == 0 && !piece.is_empty() {
-            return Err(self.faults.raise());
-        }
-        Ok(n)
+        put_some(&mut self.writer, piece, &mut self.faults)
     }
 }
 
@@ -175,6 +171,24 @@ pub(crate) fn read_some<R: Read>(
         }
     }
     Err(faults.raise())
+}
+
+/// One write, which fails where the writer takes nothing.
+pub(crate) fn put_some<W: Write>(
+    writer: &mut W,
+    piece: &[u8],
+    faults: &mut Faults,
+) -> Result<usize, Failed>
+    ensures count { IfOk result (λ n. n ≤ length piece.now) }
+    ensures some { IfOk result (λ n. 0 < length piece.now → 0 < n) }
+    ensures told { WriteAppends (W.contents writer.old) (W.contents writer.new) result piece.now }
+    ensures cause { HasCause faults.old.count faults.new.count result }
+{
+    let n = write_some(writer, piece, faults)?;
+    if n == 0 && !piece.is_empty() {
+        return Err(faults.raise());
+    }
+    Ok(n)
 }
 
 /// One write, made again where a signal interrupts it.
