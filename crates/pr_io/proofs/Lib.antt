@@ -1,6 +1,7 @@
 mod Ahead
 pub mod Pieces
 mod Placing
+pub mod Following
 pub mod Sent
 pub mod Spanning
 pub mod Recording

@@ -1,5 +1,5 @@
 -- What a medium holds, block by block, where that is told.
-use Rattle.std.specs.Prelude.{◌≡◌, ◌≢◌, ℕ, ◌+◌, ◌*◌, List, slice_range, Option, Some, None, Result, OnOk}
+use Rattle.std.specs.Prelude.{◌≡◌, ◌≢◌, ℕ, ◌+◌, ◌*◌, ◌/◌, ◌<◌, List, length, slice_range, Option, Some, None, Result, OnOk}
 
 -- the block with this address, among blocks of 512 bytes that stand one after another (SBC-3, logical block address)
 abbrev pub block_at : List ℕ → ℕ → List ℕ
@@ -19,3 +19,8 @@ abbrev pub WritesBlock : {T E : Type 0} → Option (ℕ → List ℕ) → Option
 WritesBlock None now lba result block = now ≡ None
 WritesBlock (Some before) None lba result block = ⊥
 WritesBlock (Some before) (Some now) lba result block = OnOk result (now lba ≡ block) × OthersStay before now lba
+
+-- a read of blocks that follow one another, where it succeeds, gives what stands in each (SBC-3, READ)
+abbrev pub ReadsBlocks : {T E : Type 0} → Option (ℕ → List ℕ) → ℕ → Result T E → List ℕ → Type 0
+ReadsBlocks None lba result bytes = Unit {0}
+ReadsBlocks (Some held) lba result bytes = OnOk result ((i : ℕ) → i < length bytes / 512 → block_at bytes i ≡ held (lba + i))

@@ -1,5 +1,5 @@
 -- Connections that come in at a door (this project's own).
-use Rattle.std.specs.Prelude.{◌≡◌, ℕ, ◌+◌, List, [], ◌∷◌, Option, Some, None, Result, Ok, Err, OnOk, OnErr}
+use Rattle.std.specs.Prelude.{◌≡◌, ℕ, ◌+◌, List, ◌∷◌, Option, Some, None, Result, Ok, Err, OnOk, OnErr}
 use Rattle.pr_io.specs.Told.{ToldStreams}
 
 -- where it is told which connections wait, the first of them was taken, or, where the call fails, none (this project's own)

@@ -1,5 +1,6 @@
 pub mod Ahead
 pub mod Blocks
+pub mod BlocksAhead
 pub mod Calls
 pub mod Causes
 pub mod Contents
@@ -9,6 +10,7 @@ pub mod Spans
 pub mod Streams
 pub mod Told
 pub mod Doors
+pub mod Files
 pub mod Talks
 pub mod Lines
 pub mod Devices

@@ -1,7 +1,8 @@
 ghost use Rattle.std.specs.Prelude.{◌≡◌, ◌≤◌};
-ghost use Rattle.pr_io.specs.Causes.{next_fault};
+ghost use Rattle.pr_io.specs.Causes.{HasCause, next_fault};
 
 use crate::Failed;
+use std::io;
 
 /// A count of faults, which stands still at 2^64 - 1.
 #[derive(Debug, Drop)]
@@ -29,5 +30,15 @@ impl Faults {
     {
         self.count = self.count.saturating_add(1);
         Failed
+    }
+}
+
+/// The answer to a call of a file, whose failure is counted.
+pub(crate) fn counted(answer: io::Result<()>, faults: &mut Faults) -> Result<(), Failed>
+    ensures { HasCause faults.old.count faults.new.count result }
+{
+    match answer {
+        Ok(()) => Ok(()),
+        Err(_) => Err(faults.raise()),
     }
 }

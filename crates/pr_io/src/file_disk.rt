@@ -1,7 +1,7 @@
 ghost use Rattle.std.specs.Prelude.{◌≡◌, None, IfOk};
 ghost use Rattle.pr_io.specs.Causes.{HasCause};
 
-use crate::faults::Faults;
+use crate::faults::{Faults, counted};
 use crate::{DISK, Disk, FRESH_HEAD, Failed};
 use std::fs::{File, Files, OpenOptions};
 use std::io;
@@ -83,15 +83,5 @@ impl Disk for FileDisk {
 
     fn faults(&self) -> u64 {
         self.faults.count()
-    }
-}
-
-/// The answer to a call of the file, whose failure is counted.
-fn counted(answer: io::Result<()>, faults: &mut Faults) -> Result<(), Failed>
-    ensures { HasCause faults.old.count faults.new.count result }
-{
-    match answer {
-        Ok(()) => Ok(()),
-        Err(_) => Err(faults.raise()),
     }
 }

@@ -6,12 +6,14 @@
 #![tactic(auto)]
 
 mod blocks;
+mod bulk_medium;
 mod calls;
 mod devices;
 mod disk_call;
 mod door;
 mod faults;
 mod file_disk;
+mod file_medium;
 mod fresh;
 mod mem_disk;
 mod mem_door;
@@ -20,6 +22,7 @@ mod memory;
 mod outside;
 mod peer;
 mod putting;
+mod read_ahead;
 mod reading;
 mod recorded;
 mod script_peer;
@@ -31,8 +34,10 @@ mod tcp_wire;
 mod wire;
 mod writing;
 
+pub use bulk_medium::BulkMedium;
 pub use door::Door;
 pub use file_disk::FileDisk;
+pub use file_medium::{FileMedium, MediumFault};
 pub use fresh::{DISK, FRESH_HEAD};
 pub use mem_disk::MemDisk;
 pub use mem_door::MemDoor;
@@ -41,6 +46,7 @@ pub use memory::{MemMedium, MemSink, MemSource};
 pub use outside::{Disk, Failed, Medium, Sink, Source};
 pub use peer::Peer;
 pub use putting::{put, settle};
+pub use read_ahead::ReadAhead;
 pub use reading::read_up_to;
 pub use script_peer::ScriptPeer;
 pub use standard::{StdinSource, StdoutSink};
@@ -54,6 +60,8 @@ pub use writing::{put_all, put_three, put_two};
 mod disk_tests;
 #[cfg(test)]
 mod door_tests;
+#[cfg(test)]
+mod medium_tests;
 #[cfg(test)]
 mod tests;
 #[cfg(test)]

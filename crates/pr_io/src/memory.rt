@@ -8,7 +8,7 @@ ghost use Rattle.pr_io.specs.Streams.{HasEnded, MovesInto, Reaches};
 use crate::blocks::Blocks;
 use crate::calls::Calls;
 use crate::faults::Faults;
-use crate::{Failed, Medium, Sink, Source};
+use crate::{BulkMedium, Failed, Medium, Sink, Source};
 use std::alloc::Global;
 
 /// A source over bytes in memory, some of whose calls fail.
@@ -276,5 +276,15 @@ impl Medium for MemMedium {
 
     fn faults(&self) -> u64 {
         self.faults.count()
+    }
+}
+
+impl BulkMedium for MemMedium {
+    fn read_blocks(&mut self, lba: u64, blocks: &mut [u8]) -> Result<(), Failed> {
+        if self.calls.next_fails() {
+            return Err(self.faults.raise());
+        }
+        self.blocks.read_many(lba, blocks);
+        Ok(())
     }
 }
