@@ -6,8 +6,8 @@ use crate::{Failed, Medium};
 
 /// A medium of which blocks that follow one another can be read at once.
 pub trait BulkMedium: Medium {
-    /// Reads the blocks from this address on, as many as fill the buffer. After a failure the buffer
-    /// may hold anything.
+    /// Reads the blocks from this address on, as many as fill the buffer. After a failure the
+    /// buffer may hold anything.
     ///
     /// # Errors
     ///
@@ -20,7 +20,8 @@ pub trait BulkMedium: Medium {
         ensures contents { Self.Medium.contents self.new ≡ Self.Medium.contents self.old }
         ensures count { Self.Medium.count self.new ≡ Self.Medium.count self.old }
         ensures reference { Self.Medium.reference self.new ≡ Self.Medium.reference self.old }
-        ensures cause { HasCause (Self.Medium.faults self.old) (Self.Medium.faults self.new) result };
+        ensures cause { HasCause (Self.Medium.faults self.old) (Self.Medium.faults self.new)
+            result };
 }
 
 impl<M: BulkMedium> BulkMedium for &mut M {

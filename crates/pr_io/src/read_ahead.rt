@@ -17,8 +17,8 @@ const PLACES: usize = 32;
 /// The bytes of all pieces.
 const AHEAD: usize = 524_288;
 
-/// A medium of which blocks are read ahead: 16 KiB at a time, of which the last few are kept, so that
-/// several readers who each read on don't take them from each other.
+/// A medium of which blocks are read ahead: 16 KiB at a time, of which the last few are kept, so
+/// that several readers who each read on don't take them from each other.
 ///
 /// It holds what the medium under it holds, and writes through at once. Nobody else may write that
 /// medium. Where a piece can't be read ahead, the block is read alone.
