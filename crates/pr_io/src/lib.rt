@@ -6,6 +6,7 @@
 #![tactic(auto)]
 
 mod blocks;
+mod breath;
 mod bulk_medium;
 mod calls;
 mod devices;
@@ -34,6 +35,7 @@ mod tcp_wire;
 mod wire;
 mod writing;
 
+pub use breath::{Breath, NoBreath};
 pub use bulk_medium::BulkMedium;
 pub use door::Door;
 pub use file_disk::FileDisk;
