@@ -13,3 +13,5 @@ pub mod StepLaws
 pub mod Settled
 pub mod Asked
 pub mod Powering
+pub mod Others
+pub mod SharedLaws

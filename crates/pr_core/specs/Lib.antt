@@ -11,3 +11,5 @@ pub mod Counting
 pub mod Saves
 pub mod Admits
 pub mod View
+pub mod Deeds
+pub mod Shared
