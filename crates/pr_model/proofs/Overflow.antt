@@ -71,7 +71,7 @@ after_command_more n f rest ys place (Fault c) = refl
 after_command_more n f rest ys place Left = refl
 after_command_more n f rest ys place (Restored v) = refl
 
-after_step_more : (n : Nexus) (j : Job) (rest ys : List ℕ) (place : ℕ) (out : Out) → after_step n j (rest ++ ys) place out ≡ grown_turned (after_step n j rest place out) ys
+pub after_step_more : (n : Nexus) (j : Job) (rest ys : List ℕ) (place : ℕ) (out : Out) → after_step n j (rest ++ ys) place out ≡ grown_turned (after_step n j rest place out) ys
 after_step_more n j rest ys place Wrote = refl
 after_step_more n j rest ys place (Read b) = refl
 after_step_more n j rest ys place Done = refl
@@ -96,7 +96,7 @@ in_more true b n f rest ys place = ap (Asks n (Command f.lun (command_cdb f.body
 in_more false true n f rest ys place = refl
 in_more false false n f rest ys place = refl
 
-turn_at_more : (p : Phase) (place : ℕ) (f : Front) (ys : List ℕ) → turn_at p place (grown f ys) ≡ grown_turn (turn_at p place f) ys
+pub turn_at_more : (p : Phase) (place : ℕ) (f : Front) (ys : List ℕ) → turn_at p place (grown f ys) ≡ grown_turn (turn_at p place f) ys
 turn_at_more p place (Lacking k) ys = refl
 turn_at_more Dead place (Broken r) ys = refl
 turn_at_more (Busy n j) place (Broken r) ys = refl
@@ -121,7 +121,7 @@ turn_more_at (Busy n j) bytes ys place full = ap (Asks n (Step (carried j))) (fu
 pub turn_more : (l : Lane) (ys : List ℕ) → HELD ≤ length l.bytes → turn (arrived l ys) ≡ grown_turn (turn l) ys
 turn_more l ys full = turn_more_at l.phase l.bytes ys l.place full
 
-makes_more : (who : ℕ) (l m : Lane) (t : Turn) (es : History) (reply ys : List ℕ) → Makes who l t es reply m → Makes who (arrived l ys) (grown_turn t ys) es reply (arrived m ys)
+pub makes_more : (who : ℕ) (l m : Lane) (t : Turn) (es : History) (reply ys : List ℕ) → Makes who l t es reply m → Makes who (arrived l ys) (grown_turn t ys) es reply (arrived m ys)
 makes_more who l m Idle es reply ys makes = (makes.0, makes.1, ap (λ (x : Lane). arrived x ys) makes.2)
 makes_more who l m (Silent next) es reply ys makes = (makes.0, makes.1, ap (λ (x : Lane). arrived x ys) makes.2)
 makes_more who l m (Asks n act next) es reply ys makes = (makes.0, makes.1, makes.2, ap (λ (x : Lane). arrived x ys) makes.3)

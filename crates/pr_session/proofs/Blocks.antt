@@ -1,6 +1,9 @@
 -- Blocks in the bytes of a task.
-use Rattle.std.proofs.Common.{◌≡◌, ℕ, ◌+◌, ◌-◌, ◌≤◌, List, ◌++◌, length, take, drop, slice_range, sym, ap, ◌∙◌, arith}
-use Rattle.std.proofs.lemmas.List.{drop-take, drop-drop, take-append-drop, take-append-le, length-take, length-drop}
+use Rattle.std.proofs.Common.{◌≡◌, ℕ, ◌+◌, ◌-◌, ◌≤◌, ◌<◌, min, Bool, true, false, ltb, ltb-true, refl, List, ◌++◌, length, take, drop, slice_range, sym, ap, ◌∙◌, arith}
+use Rattle.std.proofs.lemmas.Bool.{ltb-false}
+use Rattle.pr_words.specs.declared.limits.TheConstants.{BLOCK}
+use Rattle.pr_session.specs.Places.{block_from}
+use Rattle.std.proofs.lemmas.List.{take-take, take_all, drop-take, drop-drop, take-append-drop, take-append-le, length-take, length-drop}
 use Rattle.std.proofs.lemmas.Slice.{between_is}
 
 -- how many bytes stand between two places
@@ -37,3 +40,21 @@ more_between xs i j k order within =
 -- what stands before a place, where all before it stays
 pub same_between : (xs ys : List ℕ) (i j : ℕ) → take j ys ≡ take j xs → slice_range ys i j ≡ slice_range xs i j
 same_between xs ys i j same = between_is ys i j ∙ ap (drop i) same ∙ sym (between_is xs i j)
+
+-- the first bytes of those that stand between two places, as many as there are
+pub few_between : (xs : List ℕ) (i j k : ℕ) → take (min k (j - i)) (drop i xs) ≡ take k (slice_range xs i j)
+few_between xs i j k = by (ltb k (j - i)) refl
+  where
+    by : (b : Bool) → ltb k (j - i) ≡ b → take (min k (j - i)) (drop i xs) ≡ take k (take (j - i) (drop i xs))
+    by true less =
+        let lt : k < j - i = ltb-true _ _ less in
+        let is : min k (j - i) ≡ k = omega (arith, lt) in
+        ap (λ (n : ℕ). take n (drop i xs)) is ∙ sym (take-take k (j - i) (drop i xs) (omega (arith, lt)))
+    by false more =
+        let le : j - i ≤ k = ltb-false _ _ more in
+        let is : min k (j - i) ≡ j - i = omega (arith, le) in
+        ap (λ (n : ℕ). take n (drop i xs)) is ∙ sym (take_all k (take (j - i) (drop i xs)) (omega (arith, le, length-take (j - i) (drop i xs))))
+
+-- the block that begins at a place, among the bytes from there on
+pub block_behind : (at : ℕ) (work : List ℕ) → take BLOCK (drop at work) ≡ block_from at work
+block_behind at work = let same : BLOCK ≡ (at + BLOCK) - at = omega arith in ap (λ (n : ℕ). take n (drop at work)) same

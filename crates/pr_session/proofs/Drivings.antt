@@ -33,7 +33,7 @@ use Rattle.pr_session.specs.Sessions.{HasTurned, next_of, work_of, lane_of, repl
 use Rattle.pr_session.specs.Turning.{IsFor, Begins, AwaitsAt}
 use Rattle.pr_session.specs.Driving.{Does, Follows, IsReadyIn, GoesOn, LeavesLess, left_by, left_of}
 
-never_awaits : (p : Phase) (f : Front) (n : Nexus) (a : Act) → AwaitsAt p f (want.Act n a) → ⊥
+pub never_awaits : (p : Phase) (f : Front) (n : Nexus) (a : Act) → AwaitsAt p f (want.Act n a) → ⊥
 never_awaits lanes.Dead f n a is = absurd cc
 never_awaits lanes.Fresh (Lacking k) n a is = absurd cc
 never_awaits lanes.Fresh (Broken r) n a is = is
@@ -45,7 +45,7 @@ never_awaits (lanes.Busy m j) (Lacking k) n a is = absurd cc
 never_awaits (lanes.Busy m j) (Broken r) n a is = is
 never_awaits (lanes.Busy m j) (Whole f rest) n a is = is
 
-never_dead : (n : Nexus) (a : Act) → want.Act n a ≡ want.Dead → ⊥
+pub never_dead : (n : Nexus) (a : Act) → want.Act n a ≡ want.Dead → ⊥
 never_dead n a is = absurd cc
 
 -- what an act needs that is asked for, the core has
@@ -77,7 +77,7 @@ ready_in who c l (Silent next) n a s b agrees = absurd (never_dead n a b.0)
 ready_in who c l (Asks m act next) n a s b agrees = (b.what, b.state, ready l.phase b.what (work_of s) c who b.phase agrees)
 
 -- what a session makes of an outcome, by what it asked for
-next_is : (s1 s2 : Session) (what : Asked) (result : Out) → asked_in s1.state ≡ Some what → s2.state ≡ s1.state → s2.deframer ≡ s1.deframer
+pub next_is : (s1 s2 : Session) (what : Asked) (result : Out) → asked_in s1.state ≡ Some what → s2.state ≡ s1.state → s2.deframer ≡ s1.deframer
     → next_of s2 result ≡ next_by what (work_of s2) (held_of s1.deframer) (place_of s1.deframer) (outcome_by what result (work_of s2))
 next_is s1 s2 what result asked state stream =
     ap (λ (o : Option Asked). next_for o (work_of s2) (held_of s2.deframer) (place_of s2.deframer) result) (ap asked_in state ∙ asked)
@@ -113,7 +113,7 @@ agrees_then who old new l (Asks m act next) n a s1 s2 s3 result b did state stre
     subst (λ (m : Lane). Agrees m.phase who new) (sym lane_is) (does.agrees (held_of s1.deframer) (place_of s1.deframer))
 
 -- and of a task less is left
-leaves : (p : Phase) (what : Asked) (work : List ℕ) (next : Phase) → IsFor p what work → GoesOn what work next → LeavesLess p next
+pub leaves : (p : Phase) (what : Asked) (work : List ℕ) (next : Phase) → IsFor p what work → GoesOn what work next → LeavesLess p next
 leaves lanes.Fresh what work next is goes = tt
 leaves (lanes.In m) what work next is goes = tt
 leaves lanes.Dead what work next is goes = tt

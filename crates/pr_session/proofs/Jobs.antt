@@ -5,11 +5,11 @@ use Rattle.pr_words.specs.declared.task.Way.TheVariants as ways
 use Rattle.pr_words.specs.declared.limits.TheConstants.{BLOCK, COMMAND_HEAD, DATA, HELD}
 use Rattle.pr_link.specs.declared.frame.Frame.{Frame}
 use Rattle.pr_model.specs.Lanes as lanes
-use Rattle.pr_model.specs.Lanes.{carried_by, read_by, with_bytes}
+use Rattle.pr_model.specs.Lanes.{carried, carried_by, read_by, with_bytes}
 use Rattle.pr_session.specs.declared.job.Job.{Job}
 use Rattle.pr_session.specs.Places.{data_in, block_from}
-use Rattle.pr_session.specs.Jobs.{job_of, begun_by, first_stop, next_place, block_place, data_in_by}
-use Rattle.pr_session.proofs.Blocks.{first_between, rest_between, more_between}
+use Rattle.pr_session.specs.Jobs.{job_of, begun_by, first_stop, next_place, block_place, data_in_by, carried_in, carried_of}
+use Rattle.pr_session.proofs.Blocks.{first_between, rest_between, more_between, few_between}
 
 begun_bytes : (way : Way) (sent : ℕ) (work : List ℕ) → slice_range work COMMAND_HEAD (first_stop way sent) ≡ lanes.first_bytes way (take sent (data_in work))
 begun_bytes ways.Read sent work = refl
@@ -70,3 +70,11 @@ data_in_is j work fronts = by j.way fronts
     by : (way : Way) → (way ≡ ways.Read → j.start ≡ COMMAND_HEAD) → take (data_in_by way j.start j.stop) (data_in work) ≡ read_by way (slice_range work j.start j.stop)
     by ways.Read front = ap (λ (n : ℕ). take (j.stop - j.start) (drop n work)) (sym (front refl))
     by ways.Write front = refl
+
+-- the bytes that a task's next step carries, at their place in the work buffer
+pub carried_there : (j : Job) (work : List ℕ) → take (carried_of j) (drop j.start work) ≡ carried (job_of j work)
+carried_there j work = by j.way
+  where
+    by : (way : Way) → take (carried_in way j.start j.stop) (drop j.start work) ≡ carried_by way (slice_range work j.start j.stop)
+    by ways.Read = refl
+    by ways.Write = few_between work j.start j.stop 512

@@ -6,3 +6,4 @@ mod Askings
 mod Stepping
 mod Doing
 mod Drivings
+pub mod Sharings

@@ -42,6 +42,14 @@ data_in_by ways.Write start stop = 0
 abbrev pub data_in_of : Job → ℕ
 data_in_of j = data_in_by j.way j.start j.stop
 
+-- how many bytes a task's next step carries
+abbrev pub carried_in : Way → ℕ → ℕ → ℕ
+carried_in ways.Read start stop = 0
+carried_in ways.Write start stop = min BLOCK (stop - start)
+
+abbrev pub carried_of : Job → ℕ
+carried_of j = carried_in j.way j.start j.stop
+
 -- a step of it can have come out so
 abbrev pub FitsStep : Job → StepOut → Type 0
 FitsStep j (Wrote lba) = (j.way ≡ ways.Write) × (j.start + BLOCK ≤ j.stop)

@@ -10,3 +10,4 @@ pub mod Turning
 pub mod Feeding
 pub mod Coming
 pub mod Driving
+pub mod Sharing

@@ -24,7 +24,7 @@ pub(crate) struct Job {
 }
 
 impl Job {
-    ghost use Rattle.pr_session.specs.Jobs.{first_stop, block_place, data_in_of};
+    ghost use Rattle.pr_session.specs.Jobs.{first_stop, block_place, data_in_of, carried_of};
 
     /// The task of a command that came with so many bytes of data-out, in a frame with this head.
     pub(crate) fn begin(head: Frame, way: Way, sent: usize) -> Job
@@ -55,6 +55,23 @@ impl Job {
             Way::Write => self.start,
         };
         next.min(HELD - BLOCK)
+    }
+
+    /// Where the bytes stand that its next step carries.
+    pub(crate) fn carried_place(&self) -> usize
+        ensures { result ≡ self.now.start }
+    {
+        self.start
+    }
+
+    /// How many bytes its next step carries.
+    pub(crate) fn carried_len(&self) -> usize
+        ensures { result ≡ carried_of self.now }
+    {
+        match self.way {
+            Way::Read => 0,
+            Way::Write => BLOCK.min(self.stop - self.start),
+        }
     }
 
     /// One block of it was written.

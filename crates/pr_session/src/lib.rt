@@ -8,10 +8,12 @@ mod asked;
 mod driving;
 mod job;
 mod session;
+mod sharing;
 mod state;
 mod work;
 
 pub use act::{Act, Out, Want};
 pub use driving::{close, drive};
 pub use session::Session;
+pub use sharing::drive_shared;
 pub use state::Rejection;

@@ -5,7 +5,7 @@ ghost use Rattle.pr_grammar.specs.Bodies.{login_reply, command_reply};
 ghost use Rattle.pr_grammar.specs.Frames.{front, frame, spelled};
 ghost use Rattle.pr_words.specs.declared.nexus.Nexus.{Nexus};
 ghost use Rattle.pr_words.specs.declared.nexus.Side.TheVariants.{Target};
-ghost use Rattle.pr_words.specs.declared.limits.TheConstants.{HELD, COMMAND_HEAD};
+ghost use Rattle.pr_words.specs.declared.limits.TheConstants.{BLOCK, HELD, COMMAND_HEAD};
 ghost use Rattle.pr_session.specs.declared.job.Job.{Job};
 ghost use Rattle.pr_session.specs.declared.work.TheConstants.{ROOM};
 ghost use Rattle.pr_link.specs.Replies.{IsWritable, reply_frame, data_in_of};
@@ -13,6 +13,9 @@ ghost use Rattle.pr_model.specs.Lanes.{Lane, lane, turn, broken, asked, fresh, d
 ghost use Rattle.pr_model.specs.Lanes as lanes;
 ghost use Rattle.pr_core.specs.Outs.{IsProper, IsFed, out_of, step_out};
 ghost use Rattle.pr_core.specs.View.{KeepsOthers};
+ghost use Rattle.pr_model.specs.Entries as entries;
+ghost use Rattle.pr_model.specs.Entries.{entry};
+ghost use Rattle.pr_tasks.specs.declared.step_out.StepOut.{StepOut};
 ghost use Rattle.pr_link.specs.Streams as streams;
 ghost use Rattle.pr_link.specs.Deframer.{stream_of, held_of, place_of};
 ghost use Rattle.pr_session.specs.Streams.{IsIntact};
@@ -30,7 +33,7 @@ use crate::asked::Asked;
 use crate::job::Job;
 use crate::state::{Rejection, State};
 use crate::work::{ROOM, Work};
-use pr_core::{CommandOut, Core};
+use pr_core::{CommandOut, Core, Entry, Excerpt};
 use pr_io::{Disk, Medium};
 use pr_link::{Deframer, Frame, Got, Reply, Request};
 use pr_tasks::StepOut;
@@ -62,6 +65,9 @@ impl Session {
     ghost use Rattle.pr_session.specs.Sessions.{IsSettled, IsStepping, IsAnswer, lane_of, next_of, work_of, reply_of, room_of, nexus_of, rejection_of, HasTurned, IsKept};
     ghost use Rattle.pr_session.specs.Turning.{Begins, Continues};
     ghost use Rattle.pr_session.specs.Driving.{IsReadyIn, Does};
+    ghost use Rattle.pr_session.specs.Acts.{act_by, outcome_by};
+    ghost use Rattle.pr_session.specs.Asking.{nexus_in};
+    ghost use Rattle.pr_session.specs.Sharing.{sent_place};
 
     /// A new connection. All memory is taken here: 524,320 bytes for what is held, and as many to
     /// work in.
@@ -348,6 +354,45 @@ impl Session {
         }
     }
 
+    /// The bytes that the act carries that is wanted, before it is done.
+    pub(crate) fn sent_bytes(&self) -> Excerpt
+        requires { is_some (asked_in self.now.state) ≡ true }
+        ensures { (a : Asked) → asked_in self.now.state ≡ Some a
+            → result ≡ drop (sent_place a) (work_of self.now) }
+    {
+        let at = match self.asked() {
+            Asked::Command { .. } => COMMAND_HEAD,
+            Asked::Step { job, .. } => job.carried_place(),
+            Asked::Login { .. } | Asked::Logout { .. } | Asked::Reject { .. } => 0,
+        };
+        self.work.excerpt(at)
+    }
+
+    /// The entry of the act that is wanted, which carried these bytes and was done under a number.
+    pub(crate) fn entry(&self, who: u64, sent: Excerpt, out: &Out) -> Entry
+        requires { IsAnswer self.now out.now }
+        ensures { (a : Asked) (work : List ℕ) → asked_in self.now.state ≡ Some a
+            → sent ≡ drop (sent_place a) work → result ≡ entry who (nexus_in a) (act_by a work)
+            (outcome_by a out.now (work_of self.now)) }
+    {
+        match self.asked() {
+            Asked::Login { nexus, version, .. } => login_entry(who, nexus, version, out),
+            Asked::Command {
+                head,
+                nexus,
+                cdb,
+                out_len,
+            } => self
+                .work
+                .command_entry(who, nexus, head.lun, &cdb, sent, out_len, out),
+            Asked::Step { nexus, job } => {
+                let left = self.work.excerpt(job.block_place());
+                step_entry(who, nexus, sent, job.carried_len(), out, left)
+            }
+            Asked::Logout { nexus, .. } | Asked::Reject { nexus, .. } => Entry::logout(who, nexus),
+        }
+    }
+
     /// How the act that is wanted came out. The reply then waits, if there is one.
     #[inline(always)]
     pub fn answer(&mut self, out: &Out)
@@ -514,5 +559,37 @@ fn state_after(nexus: Nexus, code: u8) -> State
         State::In(nexus)
     } else {
         State::Fresh
+    }
+}
+
+/// The entry of a login.
+fn login_entry(who: u64, nexus: Nexus, version: u8, out: &Out) -> Entry
+    requires { (code : ℕ) × (out.now ≡ Out.Login code) }
+    ensures { (code : ℕ) → out.now ≡ Out.Login code → result ≡ entry who nexus
+        (entries.Login version) (entries.Login_code code) }
+{
+    match *out {
+        Out::Login(code) => Entry::login(who, nexus, version, code),
+        Out::Command(_) | Out::Step(_) | Out::Logout => unreachable!(),
+    }
+}
+
+/// The entry of a step, which carried the first of these bytes, and behind which a block that it
+/// read stands at the front of those.
+fn step_entry(
+    who: u64,
+    nexus: Nexus,
+    sent: Excerpt,
+    sent_len: usize,
+    out: &Out,
+    left: Excerpt,
+) -> Entry
+    requires { (step : StepOut) × (out.now ≡ Out.Step step) }
+    ensures { (step : StepOut) → out.now ≡ Out.Step step → result ≡ entry who nexus
+        (entries.Step (take sent_len sent)) (step_out step (take BLOCK left)) }
+{
+    match *out {
+        Out::Step(out) => Entry::step(who, nexus, sent, sent_len, out, left),
+        Out::Login(_) | Out::Command(_) | Out::Logout => unreachable!(),
     }
 }

@@ -9,12 +9,13 @@ ghost use Rattle.pr_link.specs.Deframer.{stream_of, held_of};
 ghost use Rattle.pr_session.specs.declared.work.TheConstants.{ROOM};
 ghost use Rattle.pr_session.specs.Streams.{IsIntact, Receives};
 
+use crate::act::Out;
 use crate::acting::{command_on, step_on};
-use pr_core::{CommandOut, Core};
+use pr_core::{CommandOut, Core, Entry, Excerpt};
 use pr_io::{Disk, Medium};
 use pr_link::{Deframer, Got, RawCdb, Reply};
 use pr_tasks::StepOut;
-use pr_words::{HELD, Nexus};
+use pr_words::{COMMAND_HEAD, HELD, Nexus};
 use std::alloc::{AllocError, Global};
 
 /// The bytes in front of a reply, for the head of a record that has it. With them, a reply's data-in
@@ -37,6 +38,7 @@ impl Work {
     ghost use Rattle.pr_core.specs.View.{owner_of, progress_of, KeepsOthers, Extends};
     ghost use Rattle.pr_session.specs.Places.{block_from, data_in};
     ghost use Rattle.pr_session.specs.Coming.{IsIdleIn};
+    ghost use Rattle.pr_core.specs.declared.answers.CommandOut.{CommandOut};
     ghost use Rattle.pr_session.specs.Works.{bytes_of};
 
     /// Takes the memory: 524,320 bytes.
@@ -61,6 +63,13 @@ impl Work {
         ensures { result.now ≡ slice_range (bytes_of self.now) start stop }
     {
         &self.bytes[start..stop]
+    }
+
+    /// The bytes from a place on, for an entry that carries them.
+    pub(crate) fn excerpt(&self, at: usize) -> Excerpt
+        ensures { result ≡ drop at (bytes_of self.now) }
+    {
+        Excerpt::of(&self.bytes, at)
     }
 
     /// Writes over the bytes from a place on.
@@ -111,6 +120,31 @@ impl Work {
         ensures others { KeepsOthers who core.old core.new }
     {
         command_on(core, who, nexus, lun, cdb.bytes(), &mut self.bytes, out_len)
+    }
+
+    /// The entry of a command that carried these bytes, whose data-in now stands at its place.
+    pub(crate) fn command_entry(
+        &self,
+        who: u64,
+        nexus: Nexus,
+        lun: u16,
+        cdb: &RawCdb,
+        sent: Excerpt,
+        sent_len: usize,
+        out: &Out,
+    ) -> Entry
+        requires { (answer : CommandOut) × (out.now ≡ Out.Command answer) }
+        ensures { (answer : CommandOut) → out.now ≡ Out.Command answer → result ≡ entry who nexus
+            (Command lun cdb.now (take sent_len sent))
+            (out_of answer (data_in (bytes_of self.now))) }
+    {
+        let left = self.excerpt(COMMAND_HEAD);
+        match *out {
+            Out::Command(out) => {
+                Entry::command(who, nexus, lun, cdb.bytes(), sent, sent_len, out, left)
+            }
+            Out::Login(_) | Out::Step(_) | Out::Logout => unreachable!(),
+        }
     }
 
     /// A step of a task, whose block stands at this place.
