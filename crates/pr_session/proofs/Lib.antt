@@ -7,3 +7,5 @@ mod Stepping
 mod Doing
 mod Drivings
 pub mod Sharings
+pub mod Growing
+pub mod Servings

@@ -33,11 +33,18 @@ use Rattle.pr_session.specs.declared.asked.Asked.TheVariants.{Login, Command, St
 use Rattle.pr_session.specs.declared.session.Session.{Session}
 use Rattle.pr_link.specs.Deframer.{held_of, place_of}
 use Rattle.pr_session.specs.Acts.{act_by, outcome_by, Fits}
-use Rattle.pr_session.specs.Asking.{nexus_in}
+use Rattle.pr_session.specs.Asking.{nexus_in, next_by, rejection_by}
 use Rattle.pr_session.specs.Coming.{Agrees}
-use Rattle.pr_session.specs.States.{asked_in}
-use Rattle.pr_session.specs.Sessions.{HasTurned, next_of, work_of, lane_of, reply_of}
-use Rattle.pr_session.specs.Turning.{Begins}
+use Rattle.pr_session.specs.declared.state.State.{State}
+use Rattle.pr_session.specs.declared.state.State.TheVariants as states
+use Rattle.pr_session.specs.declared.state.Rejection.{Rejection}
+use Rattle.pr_session.specs.Ends.{IsMade, EndsTurn}
+use Rattle.pr_core.specs.declared.answers.CommandOut.TheVariants as answers
+use Rattle.pr_tasks.specs.declared.step_out.StepOut.TheVariants as steps
+use Rattle.pr_link.specs.Streams.{frame_of}
+use Rattle.pr_session.specs.States.{asked_in, rejection_in}
+use Rattle.pr_session.specs.Sessions.{HasTurned, next_of, work_of, lane_of, reply_of, rejection_of}
+use Rattle.pr_session.specs.Turning.{Begins, AwaitsAt, IsRejection}
 use Rattle.pr_session.specs.Driving.{Does, LeavesLess}
 use Rattle.pr_session.specs.Sharing.{OnLater, WillAgree, WillBeReady, Publishes, Shares, sent_place}
 use Rattle.pr_session.proofs.Drivings.{ready_in, never_awaits, never_dead, next_is, leaves}
@@ -237,3 +244,95 @@ step_entry_is who n j out work now sent left len made o a steps is answer sent_i
     let fits : Fits (Step n j) out = subst (λ (x : Asked). Fits x out) (same_asked answer.0 (Step n j) (sym answer.1 ∙ steps)) answer.2 in
     subst (λ (x : Asked). made ≡ entry who (nexus_in x) (act_by x work) (outcome_by x out now)) here
     (step_made who n j out work now sent left len made fits (sent_is ∙ ap (λ (x : Asked). drop (sent_place x) work) (sym here)) len_is left_is made_is)
+
+-- which turn was begun, by what is wanted of a session that lives
+
+pub idle_where : (l : Lane) (t : Turn) (k : ℕ) (s : Session) → Begins l t (want.Need k) s → t ≡ Idle
+idle_where l Idle k s b = refl
+idle_where l (Silent next) k s b = let e : want.Need k ≡ want.Dead = b.0 in absurd cc
+idle_where l (Asks n a next) k s b = let e = b.want in absurd cc
+
+-- and it stays as it was
+pub idle_stays : (l : Lane) (t : Turn) (k : ℕ) (s : Session) → Begins l t (want.Need k) s → lane_of s ≡ l
+idle_stays l Idle k s b = b.1.lane
+idle_stays l (Silent next) k s b = let e : want.Need k ≡ want.Dead = b.0 in absurd cc
+idle_stays l (Asks n a next) k s b = let e = b.want in absurd cc
+
+dead_awaits : (p : Phase) (f : Front) → (p ≡ lanes.Dead → ⊥) → AwaitsAt p f want.Dead → ⊥
+dead_awaits lanes.Dead f lives is = lives refl
+dead_awaits lanes.Fresh (Lacking k) lives is = absurd cc
+dead_awaits lanes.Fresh (Broken r) lives is = is
+dead_awaits lanes.Fresh (Whole f rest) lives is = is
+dead_awaits (lanes.In n) (Lacking k) lives is = absurd cc
+dead_awaits (lanes.In n) (Broken r) lives is = is
+dead_awaits (lanes.In n) (Whole f rest) lives is = is
+dead_awaits (lanes.Busy n j) (Lacking k) lives is = absurd cc
+dead_awaits (lanes.Busy n j) (Broken r) lives is = is
+dead_awaits (lanes.Busy n j) (Whole f rest) lives is = is
+
+pub made_silent : (l : Lane) (t : Turn) (s : Session) → (l.phase ≡ lanes.Dead → ⊥) → Begins l t want.Dead s → IsMade t
+made_silent l Idle s lives b = absurd (dead_awaits l.phase (front Target l.bytes) lives b.0)
+made_silent l (Silent next) s lives b = tt
+made_silent l (Asks n a next) s lives b = tt
+
+pub made_act : (l : Lane) (t : Turn) (n : Nexus) (a : Act) (s : Session) → Begins l t (want.Act n a) s → IsMade t
+made_act l Idle n a s b = absurd (never_awaits l.phase _ n a b.0)
+made_act l (Silent next) n a s b = tt
+made_act l (Asks m act next) n a s b = tt
+
+-- how a session that ended did so
+
+pub ends_silent : (l : Lane) (t : Turn) (s : Session) → (l.phase ≡ lanes.Dead → ⊥) → Begins l t want.Dead s → EndsTurn (rejection_of s) t
+ends_silent l Idle s lives b = absurd (dead_awaits l.phase (front Target l.bytes) lives b.0)
+ends_silent l (Silent next) s lives b = by (rejection_of s) b.2
+  where
+    by : (r : Option Rejection) → IsRejection r next → EndsTurn r (Silent next)
+    by None is = absurd is
+    by (Some r) is = is
+ends_silent l (Asks n a next) s lives b = let e = b.want in absurd cc
+
+rejection_is : (st : State) (what : Asked) → asked_in st ≡ Some what → rejection_in st ≡ rejection_by what
+rejection_is states.Fresh what is = absurd cc
+rejection_is (states.In n) what is = absurd cc
+rejection_is (states.Dead r) what is = absurd cc
+rejection_is (states.Busy n j) what is = ap rejection_by (same_asked (Step n j) what is)
+rejection_is (states.Asking a) what is = ap rejection_by (same_asked a what is)
+
+login_lives : (n : Nexus) (b : Bool) → (cond b (lanes.In n) lanes.Fresh) ≡ lanes.Dead → ⊥
+login_lives n true is = absurd cc
+login_lives n false is = absurd cc
+
+-- of a turn that ends a session, by what was asked for
+ends_by : (what : Asked) (out : Out) (work left held : List ℕ) (place : ℕ) (m : Nexus) (act : entries.Act) (next : entries.Out → Turned) → Fits what out → act_by what work ≡ act → ((o : entries.Out) → next_by what work held place o ≡ next o)
+    → (next_by what left held place (outcome_by what out left)).lane.phase ≡ lanes.Dead → EndsTurn (rejection_by what) (Asks m act next)
+ends_by (Login head n version) (outs.Login code) work left held place m act next fits is follows dead = absurd (login_lives n (eqb code 0) dead)
+ends_by (Login head n version) (outs.Command out) work left held place m act next fits is follows dead = absurd fits
+ends_by (Login head n version) (outs.Step out) work left held place m act next fits is follows dead = absurd fits
+ends_by (Login head n version) outs.Logout work left held place m act next fits is follows dead = absurd fits
+ends_by (Command head n cdb sent) (outs.Command (answers.Ended s sense len)) work left held place m act next fits is follows dead = absurd cc
+ends_by (Command head n cdb sent) (outs.Command (answers.Started way count)) work left held place m act next fits is follows dead = absurd cc
+ends_by (Command head n cdb sent) (outs.Login code) work left held place m act next fits is follows dead = absurd fits
+ends_by (Command head n cdb sent) (outs.Step out) work left held place m act next fits is follows dead = absurd fits
+ends_by (Command head n cdb sent) outs.Logout work left held place m act next fits is follows dead = absurd fits
+ends_by (Step n j) (outs.Step (steps.Wrote lba)) work left held place m act next fits is follows dead = absurd cc
+ends_by (Step n j) (outs.Step (steps.Read lba)) work left held place m act next fits is follows dead = absurd cc
+ends_by (Step n j) (outs.Step (steps.Fault code)) work left held place m act next fits is follows dead = absurd cc
+ends_by (Step n j) (outs.Step steps.Done) work left held place m act next fits is follows dead = absurd cc
+ends_by (Step n j) (outs.Step steps.Aborted) work left held place m act next fits is follows dead = absurd cc
+ends_by (Step n j) (outs.Login code) work left held place m act next fits is follows dead = absurd fits
+ends_by (Step n j) (outs.Command out) work left held place m act next fits is follows dead = absurd fits
+ends_by (Step n j) outs.Logout work left held place m act next fits is follows dead = absurd fits
+ends_by (Logout head n) out work left held place m act next fits is follows dead = (sym is, (frame_of head [], λ o. sym (follows o)))
+ends_by (Reject n r) out work left held place m act next fits is follows dead = (sym is, λ o. sym (follows o))
+
+module _ {M D : Type 0} {gm : media.Ghosts M} {gd : disks.Ghosts D} where
+  pub ends_act : (who : ℕ) (ground : Option Ground) (own own_now seen : History) (l : Lane) (t : Turn) (n : Nexus) (a : Act) (s1 s2 s3 : Session) (result : Out)
+      → Begins l t (want.Act n a) s1 → ((what : Asked) → asked_in s1.state ≡ Some what → Publishes gm gd what who (work_of s1) result (work_of s2) ground own own_now seen) → s2.state ≡ s1.state → s2.deframer ≡ s1.deframer
+      → HasTurned s3 (next_of s2 result) → rejection_of s3 ≡ rejection_in s2.state → (lane_of s3).phase ≡ lanes.Dead → EndsTurn (rejection_of s3) t
+  ends_act who ground own own_now seen l Idle n a s1 s2 s3 result b did state stream turned rejection dead = absurd (never_awaits l.phase _ n a b.0)
+  ends_act who ground own own_now seen l (Silent next) n a s1 s2 s3 result b did state stream turned rejection dead = absurd (never_dead n a b.0)
+  ends_act who ground own own_now seen l (Asks m act next) n a s1 s2 s3 result b did state stream turned rejection dead =
+      let p : Publishes gm gd b.what who (work_of s1) result (work_of s2) ground own own_now seen = did b.what b.state in
+      let lane_is = turned.lane ∙ ap (λ (x : Turned). x.lane) (next_is s1 s2 b.what result b.state state stream) in
+      subst (λ (r : Option Rejection). EndsTurn r (Asks m act next)) (sym (rejection ∙ ap rejection_in state ∙ rejection_is s1.state b.what b.state))
+      (ends_by b.what result (work_of s1) (work_of s2) (held_of s1.deframer) (place_of s1.deframer) m act next p.does.fits b.act b.next (ap (λ (k : Lane). k.phase) (sym lane_is) ∙ dead))

@@ -11,3 +11,4 @@ pub mod Feeding
 pub mod Coming
 pub mod Driving
 pub mod Sharing
+pub mod Ends

@@ -1,11 +1,11 @@
 -- How a session takes the turns of its lane.
-use Rattle.std.specs.Prelude.{◌≡◌, ℕ, ◌≤◌, List, [], Some}
+use Rattle.std.specs.Prelude.{◌≡◌, ℕ, ◌≤◌, List, [], Option, Some, None}
 use Rattle.pr_words.specs.declared.nexus.Nexus.{Nexus}
 use Rattle.pr_words.specs.declared.nexus.Side.TheVariants.{Target}
 use Rattle.pr_grammar.specs.Frames.{Front, Lacking, front}
 use Rattle.pr_model.specs.Entries.{Out}
 use Rattle.pr_model.specs.Entries as entries
-use Rattle.pr_model.specs.Lanes.{Lane, Phase, Turn, Turned, turned, Idle, Silent, Asks}
+use Rattle.pr_model.specs.Lanes.{Lane, Phase, Turn, Turned, turned, rejected, Idle, Silent, Asks}
 use Rattle.pr_model.specs.Lanes as lanes
 use Rattle.pr_session.specs.declared.act.Want.{Want}
 use Rattle.pr_session.specs.declared.act.Want.TheVariants as want
@@ -20,7 +20,8 @@ use Rattle.pr_session.specs.Jobs.{job_of}
 use Rattle.pr_session.specs.Acts.{act_by}
 use Rattle.pr_session.specs.Asking.{nexus_in, want_of, next_by}
 use Rattle.pr_session.specs.States.{asked_in}
-use Rattle.pr_session.specs.Sessions.{HasTurned, work_of}
+use Rattle.pr_session.specs.declared.state.Rejection.{Rejection}
+use Rattle.pr_session.specs.Sessions.{HasTurned, work_of, rejection_of}
 
 -- what an idle lane wants: more bytes, or nothing any more
 abbrev pub AwaitsAt : Phase → Front → Want → Type 0
@@ -50,10 +51,15 @@ pub record IsAsked (from : Phase) (n : Nexus) (a : entries.Act) (follows : Out �
   pub phase : IsFor from what (work_of s)
   pub next : (out : Out) → next_by what (work_of s) (held_of s.deframer) (place_of s.deframer) out ≡ follows out
 
+-- a turn ends with this Reject
+abbrev pub IsRejection : Option Rejection → Turned → Type 0
+IsRejection None next = ⊥
+IsRejection (Some r) next = next ≡ rejected r.reason r.place
+
 -- a turn of the lane for which the session stands is begun: an idle one leaves it as it is, one without an entry is made, which is a Reject's, and else its act is wanted
 abbrev pub Begins : Lane → Turn → Want → Session → Type 0
 Begins l Idle w s = Awaits l w × HasTurned s (turned l [])
-Begins l (Silent next) w s = (w ≡ want.Dead) × HasTurned s next
+Begins l (Silent next) w s = (w ≡ want.Dead) × HasTurned s next × IsRejection (rejection_of s) next
 Begins l (Asks n a next) w s = IsAsked l.phase n a next w s
 
 -- asked again, a turn under way wants the same

@@ -7,13 +7,17 @@ mod acting;
 mod asked;
 mod driving;
 mod job;
+mod serving;
 mod session;
+mod session_end;
 mod sharing;
 mod state;
 mod work;
 
 pub use act::{Act, Out, Want};
 pub use driving::{close, drive};
+pub use serving::serve_turn;
 pub use session::Session;
+pub use session_end::SessionEnd;
 pub use sharing::drive_shared;
 pub use state::Rejection;

@@ -1,6 +1,8 @@
 //! The session of one connection.
 
-ghost use Rattle.std.specs.Prelude.{◌≡◌, ◌+◌, ◌-◌, ◌≤◌, ◌<◌, ◌++◌, ◌∷◌, [], Some, None, is_some, true, false, take, drop, length, slice_range, IfOk, MatchBool, ℕ, List};
+ghost use Rattle.std.specs.Prelude.{◌≡◌, ◌+◌, ◌-◌, ◌≤◌, ◌<◌, ◌++◌, ◌∷◌, [], Some, None, is_some, true, false, take, drop, length, slice_range, IfOk, OnOk, OnErr, MatchBool, ℕ, List};
+ghost use Rattle.pr_io.specs.Streams.{HasEnded, Put, PutSome};
+ghost use Rattle.pr_io.specs.Causes.{HasCause};
 ghost use Rattle.pr_grammar.specs.Bodies.{login_reply, command_reply};
 ghost use Rattle.pr_grammar.specs.Frames.{front, frame, spelled};
 ghost use Rattle.pr_words.specs.declared.nexus.Nexus.{Nexus};
@@ -9,7 +11,7 @@ ghost use Rattle.pr_words.specs.declared.limits.TheConstants.{BLOCK, HELD, COMMA
 ghost use Rattle.pr_session.specs.declared.job.Job.{Job};
 ghost use Rattle.pr_session.specs.declared.work.TheConstants.{ROOM};
 ghost use Rattle.pr_link.specs.Replies.{IsWritable, reply_frame, data_in_of};
-ghost use Rattle.pr_model.specs.Lanes.{Lane, lane, turn, broken, asked, fresh, dead, arrived, rejected, turned, place_after, phase_after_login, after_step};
+ghost use Rattle.pr_model.specs.Lanes.{AwaitsFrame, Lane, lane, turn, broken, asked, fresh, dead, arrived, rejected, turned, place_after, phase_after_login, after_step};
 ghost use Rattle.pr_model.specs.Lanes as lanes;
 ghost use Rattle.pr_core.specs.Outs.{IsProper, IsFed, out_of, step_out};
 ghost use Rattle.pr_core.specs.View.{KeepsOthers};
@@ -19,7 +21,7 @@ ghost use Rattle.pr_tasks.specs.declared.step_out.StepOut.{StepOut};
 ghost use Rattle.pr_link.specs.Streams as streams;
 ghost use Rattle.pr_link.specs.Deframer.{stream_of, held_of, place_of};
 ghost use Rattle.pr_session.specs.Streams.{IsIntact};
-ghost use Rattle.pr_session.specs.Feeding.{fed};
+ghost use Rattle.pr_session.specs.Feeding.{fed, Takes};
 ghost use Rattle.pr_session.specs.States.{IsSettledIn, is_busy, phase_of, phase_in, living, rejection_at, rejection_in, asked_in};
 ghost use Rattle.pr_session.specs.Jobs.{job_of, block_in, FitsStep};
 ghost use Rattle.pr_session.specs.Places.{data_in};
@@ -34,7 +36,7 @@ use crate::job::Job;
 use crate::state::{Rejection, State};
 use crate::work::{ROOM, Work};
 use pr_core::{CommandOut, Core, Entry, Excerpt};
-use pr_io::{Disk, Medium};
+use pr_io::{Disk, Failed, Medium, Sink, Source, put_all};
 use pr_link::{Deframer, Frame, Got, Reply, Request};
 use pr_tasks::StepOut;
 use pr_words::{BLOCK, COMMAND_HEAD, HELD, Nexus, Sense, Side, Status};
@@ -134,7 +136,7 @@ impl Session {
         }
     }
 
-    fn is_dead(&self) -> bool
+    pub(crate) fn is_dead(&self) -> bool
         requires { IsSettled self.now }
         ensures { MatchBool result ((lane_of self.now).phase ≡ lanes.Dead)
             ((lane_of self.now).phase ≡ lanes.Dead → ⊥) }
@@ -155,6 +157,49 @@ impl Session {
             return bytes.len();
         }
         self.deframer.feed(bytes)
+    }
+
+    /// Takes bytes of the connection from a source, by one call, as many as there is room for, and
+    /// says how many. None, where there is room, is the end of the source.
+    ///
+    /// # Errors
+    ///
+    /// Where the source has failed. Nothing was taken then.
+    pub fn take_from<S: Source>(&mut self, source: &mut S) -> Result<usize, Failed>
+        requires settled { IsSettled self.old }
+        requires awaits { AwaitsFrame (lane_of self.old).phase }
+        requires replied { reply_of self.old ≡ [] }
+        ensures takes { Takes (S.rest source.old) (S.rest source.new) (lane_of self.old)
+            (lane_of self.new) result }
+        ensures end { IfOk result (λ n. HasEnded (S.rest source.new) n
+            (HELD - length (lane_of self.old).bytes)) }
+        ensures keeps { (self.new.state ≡ self.old.state) × (reply_of self.new ≡ []) }
+        ensures cause { HasCause (S.faults source.old) (S.faults source.new) result }
+    {
+        let room = HELD - self.deframer.held();
+        let n = self.work.take_from(source, room)?;
+        self.deframer.feed(self.work.front(n));
+        Ok(n)
+    }
+
+    /// Sends the reply that waits, in as few calls of the sink as it allows.
+    ///
+    /// # Errors
+    ///
+    /// Where the sink has failed. A front of the reply was sent then.
+    pub fn send_to<K: Sink>(&mut self, sink: &mut K) -> Result<(), Failed>
+        ensures all { OnOk result (Put (K.written sink.old) (K.written sink.new)
+            (reply_of self.old)) }
+        ensures some { OnErr result (PutSome (K.written sink.old) (K.written sink.new)
+            (reply_of self.old)) }
+        ensures sent { OnOk result (reply_of self.new ≡ []) }
+        ensures keeps { IsKept self.old self.new }
+        ensures cause { HasCause (K.faults sink.old) (K.faults sink.new) result }
+    {
+        put_all(sink, self.reply())?;
+        let len = self.reply().len();
+        self.sent(len);
+        Ok(())
     }
 
     /// The bytes of the reply that aren't sent yet.

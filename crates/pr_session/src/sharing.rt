@@ -1,16 +1,17 @@
 //! Sessions driven with a target that threads share, by turns of a gate.
 
-ghost use Rattle.std.specs.Prelude.{◌≡◌, ◌≤◌, ◌^◌, [], Some, is_some, true, IfOk, IfErr};
+ghost use Rattle.std.specs.Prelude.{◌≡◌, ◌≤◌, ◌^◌, [], Some, is_some, true, IfOk, IfErr, MatchBool};
 ghost use mathlib.Core.List.{IsPrefix};
 ghost use Rattle.pr_model.specs.Entries.{History};
-ghost use Rattle.pr_model.specs.Lanes.{turn};
+ghost use Rattle.pr_model.specs.Lanes.{Dead, Idle, turn};
 ghost use Rattle.pr_core.specs.declared.ground.Ground.{Ground};
 ghost use Rattle.pr_core.specs.Shared.{IsLegalOn};
 ghost use Rattle.pr_gate.specs.Passes.{IsOf, IsFree, IsSamePass, number_of, seen_of, own_of, ground_of};
 ghost use Rattle.pr_session.specs.declared.asked.Asked.{Asked};
 ghost use Rattle.pr_session.specs.States.{asked_in};
-ghost use Rattle.pr_session.specs.Sessions.{IsSettled, lane_of, reply_of, work_of};
+ghost use Rattle.pr_session.specs.Sessions.{IsSettled, lane_of, reply_of, work_of, rejection_of};
 ghost use Rattle.pr_session.specs.Driving.{LeavesLess};
+ghost use Rattle.pr_session.specs.Ends.{IsMade, EndsTurn};
 ghost use Rattle.pr_session.specs.Sharing.{WillAgree, WillBeReady, Publishes, Shares};
 
 use crate::act::{Out, Want};
@@ -20,8 +21,9 @@ use pr_gate::{Gate, Pass, Spent};
 use pr_io::{Disk, Medium};
 use std::sync::Wait;
 
-/// One turn of the session, with a target that threads share: at most one act, which takes one turn
-/// of the gate. The reply then waits.
+/// One turn of a session that lives, with a target that threads share: at most one act, which takes
+/// one turn of the gate. The reply then waits. It says whether there was a turn to make: where there
+/// was none, more bytes of the connection are wanted.
 ///
 /// # Errors
 ///
@@ -31,8 +33,9 @@ pub fn drive_shared<M: Medium, D: Disk, R: Wait>(
     session: &mut Session,
     gate: &Gate<Core<M, D>>,
     pass: &mut Pass<Core<M, D>>,
-) -> Result<(), Spent>
+) -> Result<bool, Spent>
     requires settled { IsSettled session.old }
+    requires lives { (lane_of session.old).phase ≡ Dead → ⊥ }
     requires replied { reply_of session.old ≡ [] }
     requires gate { IsOf gate.now pass.old × IsFree pass.old }
     requires agrees { WillAgree M.Medium D.Disk (lane_of session.old).phase (ground_of pass.old)
@@ -44,6 +47,10 @@ pub fn drive_shared<M: Medium, D: Disk, R: Wait>(
     ensures shares { IfOk result (λ _. Shares (number_of pass.old) (own_of pass.old)
         (lane_of session.old) (turn (lane_of session.old)) (own_of pass.new)
         (lane_of session.new) (reply_of session.new)) }
+    ensures made { IfOk result (λ made. MatchBool made (IsMade (turn (lane_of session.old)))
+        (turn (lane_of session.old) ≡ Idle)) }
+    ensures ends { IfOk result (λ _. (lane_of session.new).phase ≡ Dead
+        → EndsTurn (rejection_of session.new) (turn (lane_of session.old))) }
     ensures settled { IfOk result (λ _. IsSettled session.new) }
     ensures agrees { IfOk result (λ _. WillAgree M.Medium D.Disk (lane_of session.new).phase
         (ground_of pass.new) (number_of pass.new) (seen_of pass.new)) }
@@ -53,13 +60,14 @@ pub fn drive_shared<M: Medium, D: Disk, R: Wait>(
         × (own_of pass.new ≡ own_of pass.old)) }
 {
     match session.want() {
-        Want::Need(_) | Want::Dead => {}
+        Want::Need(_) => Ok(false),
+        Want::Dead => Ok(true),
         Want::Act(..) => {
             let out = publish(rt, session, gate, pass)?;
             session.answer(&out);
+            Ok(true)
         }
     }
-    Ok(())
 }
 
 /// Has the act that is wanted done in one turn of the gate, which publishes its entry.

@@ -1,6 +1,8 @@
 //! The buffer in which a session works.
 
-ghost use Rattle.std.specs.Prelude.{◌≡◌, ◌+◌, ◌≤◌, ◌++◌, take, drop, length, slice_range, vec_len};
+ghost use Rattle.std.specs.Prelude.{◌≡◌, ◌+◌, ◌≤◌, ◌++◌, take, drop, length, slice_range, vec_len, IfOk};
+ghost use Rattle.pr_io.specs.Streams.{MovesInto, HasEnded};
+ghost use Rattle.pr_io.specs.Causes.{HasCause};
 ghost use Rattle.pr_words.specs.declared.nexus.Side.TheVariants.{Target};
 ghost use Rattle.pr_words.specs.declared.limits.TheConstants.{BLOCK, DATA, HELD, COMMAND_HEAD};
 ghost use Rattle.pr_grammar.specs.Frames.{front, spelled};
@@ -12,7 +14,7 @@ ghost use Rattle.pr_session.specs.Streams.{IsIntact, Receives};
 use crate::act::Out;
 use crate::acting::{command_on, step_on};
 use pr_core::{CommandOut, Core, Entry, Excerpt};
-use pr_io::{Disk, Medium};
+use pr_io::{Disk, Failed, Medium, Source};
 use pr_link::{Deframer, Got, RawCdb, Reply};
 use pr_tasks::StepOut;
 use pr_words::{COMMAND_HEAD, HELD, Nexus};
@@ -63,6 +65,22 @@ impl Work {
         ensures { result.now ≡ slice_range (bytes_of self.now) start stop }
     {
         &self.bytes[start..stop]
+    }
+
+    /// Takes bytes from a source into the front, by one call, as many as there are up to so many.
+    pub(crate) fn take_from<S: Source>(
+        &mut self,
+        source: &mut S,
+        room: usize,
+    ) -> Result<usize, Failed>
+        requires { room ≤ HELD }
+        ensures count { IfOk result (λ n. n ≤ room) }
+        ensures bytes { MovesInto (S.rest source.old) (S.rest source.new) result
+            (bytes_of self.new) }
+        ensures end { IfOk result (λ n. HasEnded (S.rest source.new) n room) }
+        ensures cause { HasCause (S.faults source.old) (S.faults source.new) result }
+    {
+        take_to_front(source, &mut self.bytes, room)
     }
 
     /// The bytes from a place on, for an entry that carries them.
@@ -199,6 +217,18 @@ fn copy_at(work: &mut [u8], at: usize, piece: &[u8])
 {
     let (_, rest) = work.split_at_mut(at);
     copy_to_front(rest, piece);
+}
+
+/// Takes bytes from a source into the front of the slice.
+fn take_to_front<S: Source>(source: &mut S, work: &mut [u8], room: usize) -> Result<usize, Failed>
+    requires { room ≤ length work.old }
+    ensures count { IfOk result (λ n. n ≤ room) }
+    ensures bytes { MovesInto (S.rest source.old) (S.rest source.new) result work.new }
+    ensures end { IfOk result (λ n. HasEnded (S.rest source.new) n room) }
+    ensures cause { HasCause (S.faults source.old) (S.faults source.new) result }
+{
+    let (front, _) = work.split_at_mut(room);
+    source.take(front)
 }
 
 /// Writes a reply behind the first four bytes of the slice.

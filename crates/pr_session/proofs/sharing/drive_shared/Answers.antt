@@ -1,9 +1,9 @@
-use Rattle.std.proofs.Common.{rules, ℕ, refl, sym, subst}
-use Rattle.pr_model.specs.Lanes.{turn}
+use Rattle.std.proofs.Common.{rules, ℕ, refl, sym, ap, ◌∙◌, subst}
+use Rattle.pr_model.specs.Lanes.{Lane, turn}
 use Rattle.pr_gate.specs.Passes.{number_of, seen_of, own_of, ground_of}
 use Rattle.pr_session.specs.Sessions.{lane_of}
 use Rattle.pr_session.specs.Sharing.{WillAgree}
-use Rattle.pr_session.proofs.Sharings.{later_ready, wants_asked, published_fits, shares, shares_calm, agrees_later, goes_onward, calm_agrees}
+use Rattle.pr_session.proofs.Sharings.{later_ready, wants_asked, published_fits, shares, shares_calm, agrees_later, goes_onward, calm_agrees, idle_where, idle_stays, ends_act}
 use Rattle.pr_session.proofs.Drivings.{calm}
 use Rattle.pr_session.proofs.sharing.drive_shared.Goals as goal
 
@@ -27,6 +27,8 @@ returns-in-Need g c =
       seen = search rules;
       legal = λ k is legal. legal;
       shares = shares_calm (number_of c.args.pass.now) (own_of c.args.pass.now) (lane_of c.args.session.now) (turn (lane_of c.args.session.now)) c.want.result c.want.new.self b (search rules);
+      made = idle_where (lane_of c.args.session.now) (turn (lane_of c.args.session.now)) _ c.want.new.self (rw c.in-Need.is at b);
+      ends = λ dead. absurd (c.requires.lives (ap (λ (m : Lane). m.phase) (sym (idle_stays (lane_of c.args.session.now) (turn (lane_of c.args.session.now)) _ c.want.new.self (rw c.in-Need.is at b))) ∙ dead));
       settled = search rules;
       agrees = calm_agrees (number_of c.args.pass.now) (ground_of c.args.pass.now) (seen_of c.args.pass.now) (lane_of c.args.session.now) (turn (lane_of c.args.session.now)) c.want.result c.want.new.self refl b (search rules) c.requires.agrees;
       onward = calm (lane_of c.args.session.now) c.want.result c.want.new.self _ b (search rules);
@@ -48,3 +50,8 @@ pub returns-in_ok-out-in-Act-clause-onward : goal.returns-in_ok-out-in-Act-claus
 returns-in_ok-out-in-Act-clause-onward g c =
     goes_onward (number_of c.args.pass.now) (ground_of c.publish.new.pass) (own_of c.args.pass.now) (own_of c.publish.new.pass) (seen_of c.publish.new.pass) (lane_of c.args.session.now) (turn (lane_of c.args.session.now)) _ _ c.want.new.self c.publish.new.session c.answer.new.self c.in_ok-out-in-Act.out
     (rw c.in-Act.is at (c.want.ensures.begins c.requires.settled)) c.in_ok-out-in-Act.ensures.publishes c.publish.ensures.keeps.0 c.publish.ensures.keeps.1 c.answer.ensures.turned
+
+pub returns-in_ok-out-in-Act-clause-ends : goal.returns-in_ok-out-in-Act-clause-ends
+returns-in_ok-out-in-Act-clause-ends g c dead =
+    ends_act (number_of c.args.pass.now) (ground_of c.publish.new.pass) (own_of c.args.pass.now) (own_of c.publish.new.pass) (seen_of c.publish.new.pass) (lane_of c.args.session.now) (turn (lane_of c.args.session.now)) _ _ c.want.new.self c.publish.new.session c.answer.new.self c.in_ok-out-in-Act.out
+    (rw c.in-Act.is at (c.want.ensures.begins c.requires.settled)) c.in_ok-out-in-Act.ensures.publishes c.publish.ensures.keeps.0 c.publish.ensures.keeps.1 c.answer.ensures.turned c.answer.ensures.rejection dead

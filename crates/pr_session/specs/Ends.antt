@@ -1,0 +1,136 @@
+-- How far a connection was served, and how that ended (this project's own).
+use Rattle.std.specs.Prelude.{◌≡◌, ◌⊎◌, ℕ, ◌+◌, ◌<◌, ◌≤◌, ◌^◌, ◌==◌, if◌then◌else◌, List, [], ◌∷◌, ◌++◌, length, Option, Some, None}
+use Rattle.pr_grammar.specs.Frames.{Frame}
+use Rattle.pr_model.specs.Entries as entries
+use Rattle.pr_model.specs.Entries.{Out, History}
+use Rattle.pr_model.specs.Lanes.{Dead, AwaitsFrame, Lane, Turn, Idle, Silent, Asks, turn, arrived, after_logout, rejected}
+use Rattle.pr_model.specs.Runs.{Makes}
+use Rattle.pr_model.specs.Sessions.{AreTurns, AsksFor, connection}
+use Rattle.pr_io.specs.Causes.{Rose}
+use Rattle.pr_io.specs.Streams.{Took, Put}
+use Rattle.pr_session.specs.declared.state.Rejection.{Rejection}
+use Rattle.pr_session.specs.declared.session.Session.{Session}
+use Rattle.pr_session.specs.Sessions.{lane_of, reply_of, rejection_of}
+use Rattle.pr_session.specs.declared.session_end.SessionEnd.{SessionEnd}
+use Rattle.pr_session.specs.declared.session_end.SessionEnd.TheVariants.{Closed, Cut, Rejected, ReadFault, WriteFault, SpentFrames, SpentTicket, NoMemory}
+
+-- a turn that does something
+abbrev pub IsMade : Turn → Type 0
+IsMade Idle = ⊥
+IsMade (Silent next) = Unit {0}
+IsMade (Asks n act next) = Unit {0}
+
+-- whether an outcome comes with the reply to a frame: all do but a task's beginning and its moves
+abbrev pub replies_by : Out → ℕ
+replies_by (entries.Login_code code) = 1
+replies_by (entries.Ended status sense data_in) = 1
+replies_by (entries.Started way) = 0
+replies_by entries.Wrote = 0
+replies_by (entries.Read block) = 0
+replies_by entries.Done = 1
+replies_by entries.Aborted = 1
+replies_by (entries.Fault code) = 1
+replies_by entries.Left = 1
+replies_by (entries.Restored value) = 0
+
+-- how many frames were replied to
+abbrev pub replies_in : History → ℕ
+replies_in [] = 0
+replies_in (e ∷ es) = replies_by e.out + replies_in es
+
+-- turns from a new connection on made these entries and replies, whatever bytes come behind those that were read
+pub record Serves (who : ℕ) (read : List ℕ) (es : History) (replies : List ℕ) (l : Lane) : Type 0 where
+  pub turns_with : (more : List ℕ) → (turns : ℕ) × AreTurns turns who (connection (read ++ more)) es replies (arrived l more)
+
+-- a turn that answers a Logout
+abbrev pub IsLogout : Turn → Type 0
+IsLogout Idle = ⊥
+IsLogout (Silent next) = ⊥
+IsLogout (Asks n act next) = (act ≡ entries.Logout) × ((f : Frame) × ((out : Out) → next out ≡ after_logout f))
+
+-- a turn that ends with a Reject, of the frame at a place, for a reason
+abbrev pub IsReject : ℕ → ℕ → Turn → Type 0
+IsReject place reason Idle = ⊥
+IsReject place reason (Silent next) = next ≡ rejected reason place
+IsReject place reason (Asks n act next) = (act ≡ entries.Logout) × ((out : Out) → next out ≡ rejected reason place)
+
+-- by its Reject, or by none
+abbrev pub EndsTurn : Option Rejection → Turn → Type 0
+EndsTurn None t = IsLogout t
+EndsTurn (Some r) t = IsReject r.place r.reason t
+
+-- what the bytes asked for, up to and with a turn like this, with which the session ended
+pub record EndsBy (Last : Turn → Type 0) (who : ℕ) (read : List ℕ) (es : History) (replies : List ℕ) (m : Lane) : Type 0 where
+  pub before : Lane
+  pub earlier : History
+  pub answers : List ℕ
+  pub asks : AsksFor who read earlier answers before
+  pub entries : History
+  pub reply : List ℕ
+  pub makes : Makes who before (turn before) entries reply m
+  pub last : Last (turn before)
+  pub all : es ≡ earlier ++ entries
+  pub said : replies ≡ answers ++ reply
+
+-- all that the bytes asked for, up to a frame that isn't whole
+pub record RestsAt (who : ℕ) (read : List ℕ) (es : History) (replies : List ℕ) (m : Lane) : Type 0 where
+  pub asks : AsksFor who read es replies m
+  pub idle : turn m ≡ Idle
+  pub awaits : AwaitsFrame m.phase
+
+-- what the bytes asked for, as far as some turns took it, of whose replies a front was written: something was lost
+abbrev pub LosesReply : ℕ → List ℕ → History → List ℕ → Lane → Type 0
+LosesReply who read es sent m = (lost : List ℕ) × AsksFor who read es (sent ++ lost) m × (0 < length lost)
+
+-- what was made and written at each end, before a nexus that is logged in is logged out
+abbrev pub Row : SessionEnd → ℕ → List ℕ → History → List ℕ → Lane → Type 0
+Row Closed who read es sent m = EndsBy IsLogout who read es sent m ⊎ (RestsAt who read es sent m × (m.bytes ≡ []))
+Row (Cut place) who read es sent m = RestsAt who read es sent m × (0 < length m.bytes) × (m.place ≡ place)
+Row (Rejected place reason) who read es sent m = EndsBy (IsReject place reason) who read es sent m
+Row ReadFault who read es sent m = RestsAt who read es sent m
+Row WriteFault who read es sent m = LosesReply who read es sent m
+Row SpentFrames who read es sent m = AsksFor who read es sent m
+Row (SpentTicket ticket) who read es sent m = (l : Lane) × (AsksFor who read es sent l ⊎ LosesReply who read es sent l)
+Row NoMemory who read es sent m = ⊥
+
+-- a session was served since its connection began, from these states of source, sink and own entries to those: what was read asked for the entries, and the replies to it are what was sent and the reply that waits
+pub record Since (who : ℕ) (rest rest_now written written_now : Option (List ℕ)) (own own_now : History) (s : Session) : Type 0 where
+  pub read : List ℕ
+  pub asked : History
+  pub sent : List ℕ
+  pub took : Took rest rest_now read
+  pub put : Put written written_now sent
+  pub published : own_now ≡ own ++ asked
+  pub serves : Serves who read asked (sent ++ reply_of s) (lane_of s)
+  pub ended : (lane_of s).phase ≡ Dead → EndsBy (EndsTurn (rejection_of s)) who read asked (sent ++ reply_of s) (lane_of s)
+
+-- and serving it ended so, before a nexus that is logged in is logged out
+pub record Over (end : SessionEnd) (who : ℕ) (rest rest_now written written_now : Option (List ℕ)) (own own_now : History) (m : Lane) : Type 0 where
+  pub read : List ℕ
+  pub asked : History
+  pub sent : List ℕ
+  pub took : Took rest rest_now read
+  pub put : Put written written_now sent
+  pub published : own_now ≡ own ++ asked
+  pub row : Row end who read asked sent m
+
+-- how a lane's connection ends where its source ends: inside the frame in front, or between two frames
+abbrev pub end_at : Lane → SessionEnd
+end_at l = if length l.bytes == 0 then Closed else Cut l.place
+
+-- how a session has ended
+abbrev pub end_after : Option Rejection → SessionEnd
+end_after None = Closed
+end_after (Some r) = Rejected r.place r.reason
+
+-- the gate gives no more turns
+abbrev pub IsSpent : SessionEnd → Type 0
+IsSpent (SpentTicket ticket) = Unit {0}
+IsSpent _ = ⊥
+
+-- an end has its cause, by these counts of faults of the source and of the sink before and afterwards
+abbrev pub IsCaused : SessionEnd → ℕ → ℕ → ℕ → ℕ → Type 0
+IsCaused ReadFault source source_now sink sink_now = Rose source source_now
+IsCaused WriteFault source source_now sink sink_now = Rose sink sink_now
+IsCaused (SpentTicket ticket) source source_now sink sink_now = 2 ^ 62 ≤ ticket
+IsCaused _ source source_now sink sink_now = Unit {0}
