@@ -1,11 +1,15 @@
 -- How far a connection was served, call by call.
-use Rattle.std.proofs.Common.{◌≡◌, inl, inr, ℕ, ◌<◌, Bool, true, false, cond, eqb, eqb-true, arith, List, [], ◌∷◌, ◌++◌, length, Option, Some, None, Result, Ok, Err, IfOk, IfErr, refl, sym, ap, ◌∙◌, subst, append_assoc}
+use Rattle.std.proofs.Common.{◌≡◌, inl, inr, ℕ, ◌<◌, Bool, true, false, cond, eqb, eqb-true, arith, List, [], ◌∷◌, ◌++◌, length, Option, Some, None, Result, Ok, Err, IfOk, IfErr, refl, sym, ap, ◌∙◌, subst, append_assoc, ◌-◌}
 use Rattle.std.proofs.lemmas.List.{append-nil}
-use Rattle.std.proofs.lemmas.Bool.{true≢false}
-use Rattle.pr_io.specs.Streams.{Took, Put, PutSome}
+use Rattle.std.proofs.lemmas.Bool.{true≢false, cases_lt}
+use Rattle.pr_words.specs.declared.nexus.Nexus.{Nexus}
+use Rattle.pr_words.specs.declared.nexus.Side.TheVariants.{Target}
+use Rattle.pr_grammar.specs.Frames.{Front, Lacking, Broken, Whole, front}
+use Rattle.pr_grammar.proofs.Fronts.{full_front}
+use Rattle.pr_io.specs.Streams.{Took, Put, PutSome, HasEnded}
 use Rattle.pr_io.proofs.Pieces.{put_nothing, took_nothing, put_more, took_more}
-use Rattle.pr_model.specs.Entries.{History}
-use Rattle.pr_model.specs.Lanes.{Phase, Fresh, In, Busy, Dead, AwaitsFrame, Lane, turned, Idle, turn, arrived, arrived_at, fresh}
+use Rattle.pr_model.specs.Entries.{Act, Logout, Out, History}
+use Rattle.pr_model.specs.Lanes.{Phase, Fresh, In, Busy, Dead, AwaitsFrame, Lane, turned, Idle, turn, arrived, arrived_at, fresh, Turned, Silent, Asks, turn_at, turn_by}
 use Rattle.pr_model.specs.Sessions.{AsksFor}
 use Rattle.pr_session.specs.declared.state.Rejection.{Rejection}
 use Rattle.pr_session.specs.declared.session.Session.{Session}
@@ -17,7 +21,7 @@ use Rattle.pr_io.specs.declared.outside.Failed.{Failed}
 use Rattle.pr_model.proofs.Overflow.{arrived-nil}
 use Rattle.pr_session.specs.Feeding.{Takes}
 use Rattle.pr_session.specs.Sharing.{Shares}
-use Rattle.pr_session.specs.Ends.{IsMade, EndsTurn, EndsBy, Serves, RestsAt, Row, Since, Over, IsCaused, end_at, end_after}
+use Rattle.pr_session.specs.Ends.{IsMade, EndsTurn, EndsBy, Serves, RestsAt, Row, Since, Over, IsCaused, HasNoMore, ComesOfEnd, end_at, end_after}
 use Rattle.pr_session.proofs.Growing.{serves_none, serves_read, serves_turn, serves_asks}
 
 no_reply : (sent reply : List ℕ) → reply ≡ [] → sent ++ reply ≡ sent
@@ -41,6 +45,59 @@ arrived_phase (In n) l piece = refl
 pub taken_phase : (before now : Option (List ℕ)) (l m : Lane) (r : Result ℕ Failed) → AwaitsFrame l.phase → Takes before now l m r → m.phase ≡ l.phase
 taken_phase before now l m (Ok n) awaits takes = ap (λ (x : Lane). x.phase) takes.3 ∙ arrived_phase l.phase l takes.0
 taken_phase before now l m (Err e) awaits takes = ap (λ (x : Lane). x.phase) takes.1
+
+not_silent : (next : Turned) → Silent next ≡ Idle → ⊥
+not_silent next is = absurd cc
+
+not_asks : (n : Nexus) (a : Act) (next : Out → Turned) → Asks n a next ≡ Idle → ⊥
+not_asks n a next is = absurd cc
+
+fresh_acts : (b : Bool) (n : Nexus) (a : Act) (next : Out → Turned) (last : Turned) → cond b (Asks n a next) (Silent last) ≡ Idle → ⊥
+fresh_acts true n a next last is = not_asks n a next is
+fresh_acts false n a next last is = not_silent last is
+
+in_acts : (a b : Bool) (n : Nexus) (one two three : Act) (x y z : Out → Turned) → cond a (Asks n one x) (cond b (Asks n two y) (Asks n three z)) ≡ Idle → ⊥
+in_acts true b n one two three x y z is = not_asks n one x is
+in_acts false true n one two three x y z is = not_asks n two y is
+in_acts false false n one two three x y z is = not_asks n three z is
+
+-- a session that wants more bytes has a frame in front that isn't whole
+idle_lacks : (p : Phase) (place : ℕ) (f : Front) → AwaitsFrame p → turn_at p place f ≡ Idle → (k : ℕ) × (f ≡ Lacking k)
+idle_lacks p place (Lacking k) awaits is = (k, refl)
+idle_lacks Dead place (Broken r) awaits is = absurd awaits
+idle_lacks Dead place (Whole f rest) awaits is = absurd awaits
+idle_lacks (Busy n j) place (Broken r) awaits is = absurd awaits
+idle_lacks (Busy n j) place (Whole f rest) awaits is = absurd awaits
+idle_lacks Fresh place (Broken r) awaits is = absurd (not_silent _ is)
+idle_lacks (In n) place (Broken r) awaits is = absurd (not_asks n Logout _ is)
+idle_lacks Fresh place (Whole f rest) awaits is = absurd (fresh_acts (eqb f.kind 1) _ _ _ _ is)
+idle_lacks (In n) place (Whole f rest) awaits is = absurd (in_acts (eqb f.kind 2) (eqb f.kind 3) n _ _ _ _ _ _ is)
+
+room_by : (bytes : List ℕ) (k : ℕ) → front Target bytes ≡ Lacking k → length bytes < 524320
+room_by bytes k is = elim (cases_lt (length bytes) 524320) [ inl less ↦ less | inr full ↦ absurd (full_front Target bytes full k is) ]
+
+room_at : (p : Phase) (bytes : List ℕ) (place : ℕ) → AwaitsFrame p → turn_by p bytes place ≡ Idle → length bytes < 524320
+room_at Dead bytes place awaits is = absurd awaits
+room_at (Busy n j) bytes place awaits is = absurd awaits
+room_at Fresh bytes place awaits is = let lacks = idle_lacks Fresh place (front Target bytes) awaits is in room_by bytes lacks.0 lacks.1
+room_at (In n) bytes place awaits is = let lacks = idle_lacks (In n) place (front Target bytes) awaits is in room_by bytes lacks.0 lacks.1
+
+-- a source that gave nothing to a session that wants more bytes has ended
+pub no_more : (rest : Option (List ℕ)) (l : Lane) → AwaitsFrame l.phase → turn l ≡ Idle → HasEnded rest 0 (524320 - length l.bytes) → HasNoMore rest
+no_more None l awaits idle ended = tt
+no_more (Some rest) l awaits idle ended = let room = room_at l.phase l.bytes l.place awaits idle in ended (omega (arith, room)) refl
+
+pub end_comes : (l : Lane) (rest : Option (List ℕ)) → HasNoMore rest → ComesOfEnd (end_at l) l rest
+end_comes l rest none = by (eqb (length l.bytes) 0)
+  where
+    by : (b : Bool) → ComesOfEnd (cond b Closed (Cut l.place)) l rest
+    by true = λ lives. none
+    by false = none
+
+-- a session that has ended by itself wants no end of its source
+pub after_comes : (r : Option Rejection) (l : Lane) (rest : Option (List ℕ)) → l.phase ≡ Dead → ComesOfEnd (end_after r) l rest
+after_comes None l rest dead = λ lives. absurd (lives dead)
+after_comes (Some r) l rest dead = tt
 
 -- where the source has ended no fault is the cause
 pub end_caused : (l : Lane) (source source_now sink sink_now : ℕ) → IsCaused (end_at l) source source_now sink sink_now

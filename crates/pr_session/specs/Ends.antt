@@ -123,10 +123,16 @@ abbrev pub end_after : Option Rejection → SessionEnd
 end_after None = Closed
 end_after (Some r) = Rejected r.place r.reason
 
--- the gate gives no more turns
-abbrev pub IsSpent : SessionEnd → Type 0
-IsSpent (SpentTicket ticket) = Unit {0}
-IsSpent _ = ⊥
+-- nothing is left of a source, where it tells that
+abbrev pub HasNoMore : Option (List ℕ) → Type 0
+HasNoMore None = Unit {0}
+HasNoMore (Some rest) = rest ≡ []
+
+-- of an end inside a frame, and of one between two frames that no Logout brought, the end of the source is the cause
+abbrev pub ComesOfEnd : SessionEnd → Lane → Option (List ℕ) → Type 0
+ComesOfEnd (Cut place) l rest = HasNoMore rest
+ComesOfEnd Closed l rest = (l.phase ≡ Dead → ⊥) → HasNoMore rest
+ComesOfEnd _ l rest = Unit {0}
 
 -- an end has its cause, by these counts of faults of the source and of the sink before and afterwards
 abbrev pub IsCaused : SessionEnd → ℕ → ℕ → ℕ → ℕ → Type 0

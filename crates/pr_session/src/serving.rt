@@ -11,7 +11,7 @@ ghost use Rattle.pr_gate.specs.Passes.{IsOf, IsFree, IsSamePass, number_of, seen
 ghost use Rattle.pr_session.specs.declared.session_end.SessionEnd.TheVariants.{SpentTicket, ReadFault, WriteFault};
 ghost use Rattle.pr_session.specs.Sessions.{IsSettled, lane_of, reply_of};
 ghost use Rattle.pr_session.specs.Sharing.{WillAgree};
-ghost use Rattle.pr_session.specs.Ends.{Since, Over, IsSpent, IsCaused, end_at, end_after};
+ghost use Rattle.pr_session.specs.Ends.{Since, Over, IsCaused, ComesOfEnd, end_at, end_after};
 
 use crate::session::Session;
 use crate::session_end::SessionEnd;
@@ -58,6 +58,8 @@ pub fn serve_turn<S: Source, K: Sink, M: Medium, D: Disk, R: Wait>(
         (own_of pass.new) (lane_of session.new)) }
     ensures cause { IfErr result (λ end. IsCaused end (S.faults source.old) (S.faults source.new)
         (K.faults sink.old) (K.faults sink.new)) }
+    ensures ended { IfErr result (λ end. ComesOfEnd end (lane_of session.new)
+        (S.rest source.new)) }
     ensures goes_on { IfOk result (λ _. IsSettled session.new × (reply_of session.new ≡ [])
         × ((lane_of session.new).phase ≡ Dead → ⊥)) }
     ensures agrees { IfOk result (λ _. WillAgree M.Medium D.Disk (lane_of session.new).phase
@@ -95,6 +97,8 @@ fn receive<S: Source>(session: &mut Session, source: &mut S) -> Result<(), Sessi
     ensures phase { (lane_of session.new).phase ≡ (lane_of session.old).phase }
     ensures cause { IfErr result (λ end. (sink sink_now : ℕ)
         → IsCaused end (S.faults source.old) (S.faults source.new) sink sink_now) }
+    ensures ended { IfErr result (λ end. ComesOfEnd end (lane_of session.new)
+        (S.rest source.new)) }
 {
     match session.take_from(source) {
         Ok(0) => Err(end_of(session)),
@@ -136,6 +140,8 @@ fn reply<K: Sink>(session: &mut Session, sink: &mut K) -> Result<bool, SessionEn
         (lane_of session.new)) }
     ensures cause { IfErr result (λ end. (source source_now : ℕ)
         → IsCaused end source source_now (K.faults sink.old) (K.faults sink.new)) }
+    ensures ended { IfErr result (λ end. (rest : Option (List ℕ))
+        → ComesOfEnd end (lane_of session.new) rest) }
 {
     if session.reply().is_empty() {
         return Ok(false);

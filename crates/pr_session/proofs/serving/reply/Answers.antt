@@ -3,8 +3,8 @@ use Rattle.pr_model.specs.Lanes.{Lane}
 use Rattle.pr_session.specs.declared.session_end.SessionEnd.{SessionEnd}
 use Rattle.pr_session.specs.declared.session_end.SessionEnd.TheVariants.{WriteFault}
 use Rattle.pr_session.specs.Sessions.{lane_of}
-use Rattle.pr_session.specs.Ends.{Over}
-use Rattle.pr_session.proofs.Servings.{since_sent, over_dead, over_lost}
+use Rattle.pr_session.specs.Ends.{Over, ComesOfEnd}
+use Rattle.pr_session.proofs.Servings.{since_sent, over_dead, over_lost, after_comes}
 use Rattle.pr_session.proofs.serving.reply.Goals as goal
 
 pub returns-in-Ok-clause-over : goal.returns-in-Ok-clause-over
@@ -25,3 +25,7 @@ returns-in-Err-clause-over g c who rest rest_now written own own_now since =
     let after = g.K.Sink.written c.send_to.new.sink in
     subst (λ (m : Lane). Over WriteFault who rest rest_now written after own own_now m) (sym c.send_to.ensures.keeps.1)
     (over_lost who rest written own rest_now (g.K.Sink.written c.args.sink.now) after own_now c.args.session.now since c.in-Err.ensures.some)
+
+pub returns-in-Ok-clause-ended : goal.returns-in-Ok-clause-ended
+returns-in-Ok-clause-ended g c rest =
+    subst (λ (e : SessionEnd). ComesOfEnd e (lane_of c.send_to.new.self) rest) (sym c.end_by.ensures) (after_comes c.rejected.result (lane_of c.send_to.new.self) rest c.if-is_dead.ensures)
