@@ -1,6 +1,5 @@
 pub mod Adding
 pub mod Matching
-pub mod Numbering
 pub mod Reading
 pub mod Wanting
 pub mod Stepping

@@ -12,7 +12,7 @@ use Rattle.pr_persist.specs.declared.words.Chosen.{Chosen}
 use Rattle.pr_persist.specs.declared.plan.Fields.{Fields}
 use Rattle.pr_persist.specs.declared.words.Chosen.TheVariants.{Nothing, One, Many}
 use Rattle.pr_persist.specs.Arguments.{faults_in, rows_in}
-use Rattle.pr_persist.specs.Numbers.{hex_in, decimal_in}
+use Rattle.pr_numbers.specs.Numbers.{hex_in, decimal_in}
 
 abbrev pub is_true : Option Text → Bool
 is_true None = false

@@ -7,7 +7,6 @@ mod digits;
 mod exit;
 mod explaining;
 mod full;
-mod numbers;
 mod persist;
 mod plan;
 mod printing;

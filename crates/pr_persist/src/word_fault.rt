@@ -1,6 +1,6 @@
-use crate::numbers::{decimal_number, hex_number};
 use crate::words::{Chosen, action_of, is_set, looks_of, text_of};
 use clap::ArgMatches;
+use pr_numbers::{decimal_number, hex_number};
 use std::fmt;
 
 /// A rule that words break which `clap` takes.

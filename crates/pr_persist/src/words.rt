@@ -3,10 +3,10 @@ ghost use Rattle.clap.specs.Words.{found_of, rows_of, first_of, kind_of};
 ghost use Rattle.pr_persist.specs.Asking.{is_set_in, with_action, looks_in, chosen_in, directed, action_in, address_in, hex_at, nexus_in, kind_in, fields_in, wanted_in, wanted_by, wanted_of};
 
 use crate::arguments::matched;
-use crate::numbers::{decimal_number, hex_number};
 use crate::plan::{Action, Fields, Plan};
 use clap::error::ErrorKind;
 use clap::{ArgMatches, Error};
+use pr_numbers::{decimal_number, hex_number};
 use pr_words::{InService, Key, Nexus, OutService};
 use std::alloc::Global;
 

@@ -1,6 +1,6 @@
 use Rattle.std.proofs.Common.{◌∙◌, sym}
-use Rattle.pr_persist.proofs.Numbering.{decimal_is}
-use Rattle.pr_persist.proofs.numbers.decimal_number.Goals as goal
+use Rattle.pr_numbers.proofs.Numbering.{decimal_is}
+use Rattle.pr_numbers.proofs.numbers.decimal_number.Goals as goal
 
 pub returns-then-is_bare : goal.returns-then-is_bare
 returns-then-is_bare c =

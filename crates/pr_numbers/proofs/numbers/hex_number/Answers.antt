@@ -1,9 +1,9 @@
 use Rattle.std.proofs.Common.{◌≡◌, ◌∙◌, ◌==◌, ◌-◌, false, length, replicate, sym, ap, List, ℕ}
 use Rattle.std.specs.Prelude.{Some}
 use borrow.Rule.Slice.PartMut.{put_mid}
-use Rattle.pr_persist.proofs.Numbering.{hex_is, hex_not}
-use Rattle.pr_persist.specs.Numbers.{digits_of}
-use Rattle.pr_persist.proofs.numbers.hex_number.Goals as goal
+use Rattle.pr_numbers.proofs.Numbering.{hex_is, hex_not}
+use Rattle.pr_numbers.specs.Numbers.{digits_of}
+use Rattle.pr_numbers.proofs.numbers.hex_number.Goals as goal
 
 pub returns-in-Ok : goal.returns-in-Ok
 returns-in-Ok c =

@@ -11,7 +11,7 @@ use Rattle.std.proofs.lemmas.List.{take-replicate, length-drop, drop_all, append
 use borrow.Rule.Slice.PartMut.{put_mid}
 use Rattle.hex.specs.Hex.{decode_sized}
 use Rattle.hex.specs.declared.error.FromHexError.{FromHexError}
-use Rattle.pr_persist.specs.Numbers.{digits_of, hex_in, number_by, is_decimal_digit, is_bare_text, decimal_in}
+use Rattle.pr_numbers.specs.Numbers.{digits_of, hex_in, number_by, is_decimal_digit, is_bare_text, decimal_in}
 
 -- zeros before the digits, sixteen in all
 pub padded : (digits : List ℕ) → length digits ≤ 16 → put_mid (16 - length digits) (16 - (16 - length digits)) (replicate 16 48) digits ≡ replicate (16 - length digits) 48 ++ digits

@@ -1,5 +1,5 @@
 ghost use Rattle.std.specs.Prelude.{◌≡◌, ◌≤◌};
-ghost use Rattle.pr_persist.specs.Numbers.{hex_in, decimal_in, digits_of, is_bare_text};
+ghost use Rattle.pr_numbers.specs.Numbers.{hex_in, decimal_in, digits_of, is_bare_text};
 
 /// The digits behind `0x`, or all where it isn't there.
 fn digits(text: &[u8]) -> &[u8]
@@ -11,8 +11,9 @@ fn digits(text: &[u8]) -> &[u8]
     }
 }
 
-/// The number that hexadecimal digits say, as many as `most`, with `0x` before them or not.
-pub(crate) fn hex_number(text: &str, most: usize) -> Option<u64>
+/// The number that 1 to `most` hexadecimal digits of both cases say, with a lower-case `0x` before
+/// them or not. None where the text isn't that.
+pub fn hex_number(text: &str, most: usize) -> Option<u64>
     requires { most ≤ 16 }
     ensures { result ≡ hex_in most text.now }
 {
@@ -40,8 +41,9 @@ fn is_bare(digits: &[u8]) -> bool
     }
 }
 
-/// The number below 65,536 that decimal digits say, with no sign and no zero in front.
-pub(crate) fn decimal_number(text: &str) -> Option<u16>
+/// The number below 65,536 that decimal digits say, with no sign and no zero in front. None where
+/// the text isn't that.
+pub fn decimal_number(text: &str) -> Option<u16>
     ensures { result ≡ decimal_in text.now }
 {
     if is_bare(text.as_bytes()) {
