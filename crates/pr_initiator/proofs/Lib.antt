@@ -5,3 +5,4 @@ pub mod Judgings
 pub mod Replying
 pub mod Ordering
 pub mod Readying
+pub mod Coming

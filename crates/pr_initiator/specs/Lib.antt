@@ -5,4 +5,5 @@ pub mod Judging
 pub mod Answering
 pub mod Calls
 pub mod Links
+pub mod Logins
 pub mod Commands

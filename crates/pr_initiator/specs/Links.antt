@@ -36,6 +36,10 @@ link_of {W} {of} i = record {
   received = slice_range i.work.items 16 (16 + i.len);
 }
 
+-- the wire is the same one, and comes from the one before
+abbrev pub Comes : {W : Type 0} {of : wires.Ghosts W} → Initiator W of → Initiator W of → Type 0
+Comes {W} {of} old new = (of.reference new.wire ≡ of.reference old.wire) × of.comes old.wire new.wire
+
 abbrev pub next_tag : ℕ → ℕ
 next_tag tag = (tag + 1) % 2 ^ 32
 

@@ -39,6 +39,7 @@ pub(crate) fn ask<W: Wire>(
         (spelled (request_frame request.now 0 tag sent.now)) result work.new }
     ensures size { IfOk result (λ h. h.size ≤ HELD) }
     ensures reference { W.reference wire.new ≡ W.reference wire.old }
+    ensures comes { W.comes wire.old wire.new }
     ensures later { W.faults wire.old ≤ W.faults wire.new }
     ensures down { IfErr result (λ e. e ≡ LinkFault.Down →
         Rose (W.faults wire.old) (W.faults wire.new)) }

@@ -4,7 +4,7 @@ ghost use Rattle.pr_words.specs.declared.service.OutService.TheVariants as outs;
 ghost use Rattle.pr_words.specs.declared.service.InService.TheVariants as ins;
 ghost use Rattle.pr_grammar.specs.Cdbs.{FitsFields};
 ghost use Rattle.pr_initiator.specs.Commands.{Order, HasAnswered, IsReady, attention_in, inquiry, out_list, reserve_in, reserve_out};
-ghost use Rattle.pr_initiator.specs.Links.{link_of};
+ghost use Rattle.pr_initiator.specs.Links.{Comes, link_of};
 
 use crate::answer::Answer;
 use crate::initiator::Initiator;
@@ -36,8 +36,9 @@ impl<W: Wire + Drop> Initiator<W> {
     fn order(&mut self, command: Command, list: &[u8]) -> Result<Answer, LinkFault>
         requires fits { FitsFields command }
         requires few { length list.now ≤ DATA }
-        ensures { HasAnswered (link_of self.old) (link_of self.new)
+        ensures answered { HasAnswered (link_of self.old) (link_of self.new)
             (record { command = command; list = list.now }) result }
+        ensures comes { Comes self.old self.new }
     {
         let mut cdb = [0; 16];
         let size = pr_cdb::write(
@@ -52,8 +53,9 @@ impl<W: Wire + Drop> Initiator<W> {
 
     /// Sends a PERSISTENT RESERVE IN with the longest allocation length.
     fn reserve_in(&mut self, service: InService) -> Result<Answer, LinkFault>
-        ensures { HasAnswered (link_of self.old) (link_of self.new)
+        ensures answered { HasAnswered (link_of self.old) (link_of self.new)
             (reserve_in service) result }
+        ensures comes { Comes self.old self.new }
     {
         let command = Command::ReserveIn {
             action: service.code(),
@@ -72,8 +74,9 @@ impl<W: Wire + Drop> Initiator<W> {
         aptpl: bool,
     ) -> Result<Answer, LinkFault>
         requires { kind < 16 }
-        ensures { HasAnswered (link_of self.old) (link_of self.new)
+        ensures answered { HasAnswered (link_of self.old) (link_of self.new)
             (reserve_out service kind (out_list key.0 action_key.0 aptpl)) result }
+        ensures comes { Comes self.old self.new }
     {
         let list = OutList {
             key: key.0,
@@ -101,8 +104,9 @@ impl<W: Wire + Drop> Initiator<W> {
     /// `LinkFault::Attention` where nine answers were unit attentions; any other fault where no reply
     /// counts.
     pub fn ready(&mut self) -> Result<Answer, LinkFault>
-        ensures { IsReady READINESS Code.NO_SENSE (link_of self.old)
+        ensures answered { IsReady READINESS Code.NO_SENSE (link_of self.old)
             (link_of self.new) result }
+        ensures comes { Comes self.old self.new }
     {
         let mut last = Code::NO_SENSE;
         for _ in 0..READINESS {
@@ -124,7 +128,8 @@ impl<W: Wire + Drop> Initiator<W> {
     ///
     /// Where no reply counts.
     pub fn inquiry(&mut self) -> Result<Answer, LinkFault>
-        ensures { HasAnswered (link_of self.old) (link_of self.new) inquiry result }
+        ensures answered { HasAnswered (link_of self.old) (link_of self.new) inquiry result }
+        ensures comes { Comes self.old self.new }
     {
         let command = Command::Inquiry {
             vital: false,
@@ -141,8 +146,9 @@ impl<W: Wire + Drop> Initiator<W> {
     ///
     /// Where no reply counts.
     pub fn read_keys(&mut self) -> Result<Answer, LinkFault>
-        ensures { HasAnswered (link_of self.old) (link_of self.new)
+        ensures answered { HasAnswered (link_of self.old) (link_of self.new)
             (reserve_in ins.ReadKeys) result }
+        ensures comes { Comes self.old self.new }
     {
         self.reserve_in(InService::ReadKeys)
     }
@@ -154,8 +160,9 @@ impl<W: Wire + Drop> Initiator<W> {
     ///
     /// Where no reply counts.
     pub fn read_reservation(&mut self) -> Result<Answer, LinkFault>
-        ensures { HasAnswered (link_of self.old) (link_of self.new)
+        ensures answered { HasAnswered (link_of self.old) (link_of self.new)
             (reserve_in ins.ReadReservation) result }
+        ensures comes { Comes self.old self.new }
     {
         self.reserve_in(InService::ReadReservation)
     }
@@ -166,8 +173,9 @@ impl<W: Wire + Drop> Initiator<W> {
     ///
     /// Where no reply counts.
     pub fn read_capabilities(&mut self) -> Result<Answer, LinkFault>
-        ensures { HasAnswered (link_of self.old) (link_of self.new)
+        ensures answered { HasAnswered (link_of self.old) (link_of self.new)
             (reserve_in ins.ReportCapabilities) result }
+        ensures comes { Comes self.old self.new }
     {
         self.reserve_in(InService::ReportCapabilities)
     }
@@ -179,8 +187,9 @@ impl<W: Wire + Drop> Initiator<W> {
     ///
     /// Where no reply counts.
     pub fn read_full(&mut self) -> Result<Answer, LinkFault>
-        ensures { HasAnswered (link_of self.old) (link_of self.new)
+        ensures answered { HasAnswered (link_of self.old) (link_of self.new)
             (reserve_in ins.ReadFullStatus) result }
+        ensures comes { Comes self.old self.new }
     {
         self.reserve_in(InService::ReadFullStatus)
     }
@@ -193,8 +202,9 @@ impl<W: Wire + Drop> Initiator<W> {
     ///
     /// Where no reply counts.
     pub fn register(&mut self, key: Key, new: Key, aptpl: bool) -> Result<Answer, LinkFault>
-        ensures { HasAnswered (link_of self.old) (link_of self.new)
+        ensures answered { HasAnswered (link_of self.old) (link_of self.new)
             (reserve_out outs.Register 0 (out_list key.0 new.0 aptpl)) result }
+        ensures comes { Comes self.old self.new }
     {
         self.reserve_out(OutService::Register, 0, key, new, aptpl)
     }
@@ -206,8 +216,9 @@ impl<W: Wire + Drop> Initiator<W> {
     ///
     /// Where no reply counts.
     pub fn register_ignore(&mut self, new: Key, aptpl: bool) -> Result<Answer, LinkFault>
-        ensures { HasAnswered (link_of self.old) (link_of self.new)
+        ensures answered { HasAnswered (link_of self.old) (link_of self.new)
             (reserve_out outs.RegisterAndIgnoreExistingKey 0 (out_list 0 new.0 aptpl)) result }
+        ensures comes { Comes self.old self.new }
     {
         self.reserve_out(
             OutService::RegisterAndIgnoreExistingKey,
@@ -226,8 +237,9 @@ impl<W: Wire + Drop> Initiator<W> {
     /// Where no reply counts.
     pub fn reserve(&mut self, key: Key, kind: u8) -> Result<Answer, LinkFault>
         requires { kind < 16 }
-        ensures { HasAnswered (link_of self.old) (link_of self.new)
+        ensures answered { HasAnswered (link_of self.old) (link_of self.new)
             (reserve_out outs.Reserve kind (out_list key.0 0 false)) result }
+        ensures comes { Comes self.old self.new }
     {
         self.reserve_out(OutService::Reserve, kind, key, Key(0), false)
     }
@@ -240,8 +252,9 @@ impl<W: Wire + Drop> Initiator<W> {
     /// Where no reply counts.
     pub fn release(&mut self, key: Key, kind: u8) -> Result<Answer, LinkFault>
         requires { kind < 16 }
-        ensures { HasAnswered (link_of self.old) (link_of self.new)
+        ensures answered { HasAnswered (link_of self.old) (link_of self.new)
             (reserve_out outs.Release kind (out_list key.0 0 false)) result }
+        ensures comes { Comes self.old self.new }
     {
         self.reserve_out(OutService::Release, kind, key, Key(0), false)
     }
@@ -253,8 +266,9 @@ impl<W: Wire + Drop> Initiator<W> {
     ///
     /// Where no reply counts.
     pub fn clear(&mut self, key: Key) -> Result<Answer, LinkFault>
-        ensures { HasAnswered (link_of self.old) (link_of self.new)
+        ensures answered { HasAnswered (link_of self.old) (link_of self.new)
             (reserve_out outs.Clear 0 (out_list key.0 0 false)) result }
+        ensures comes { Comes self.old self.new }
     {
         self.reserve_out(OutService::Clear, 0, key, Key(0), false)
     }
@@ -267,8 +281,9 @@ impl<W: Wire + Drop> Initiator<W> {
     /// Where no reply counts.
     pub fn preempt(&mut self, key: Key, victim: Key, kind: u8) -> Result<Answer, LinkFault>
         requires { kind < 16 }
-        ensures { HasAnswered (link_of self.old) (link_of self.new)
+        ensures answered { HasAnswered (link_of self.old) (link_of self.new)
             (reserve_out outs.Preempt kind (out_list key.0 victim.0 false)) result }
+        ensures comes { Comes self.old self.new }
     {
         self.reserve_out(OutService::Preempt, kind, key, victim, false)
     }
@@ -281,8 +296,9 @@ impl<W: Wire + Drop> Initiator<W> {
     /// Where no reply counts.
     pub fn preempt_abort(&mut self, key: Key, victim: Key, kind: u8) -> Result<Answer, LinkFault>
         requires { kind < 16 }
-        ensures { HasAnswered (link_of self.old) (link_of self.new)
+        ensures answered { HasAnswered (link_of self.old) (link_of self.new)
             (reserve_out outs.PreemptAndAbort kind (out_list key.0 victim.0 false)) result }
+        ensures comes { Comes self.old self.new }
     {
         self.reserve_out(OutService::PreemptAndAbort, kind, key, victim, false)
     }

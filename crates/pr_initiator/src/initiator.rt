@@ -49,6 +49,7 @@ fn ask_in<W: Wire>(
         (spelled (request_frame request.now 0 tag sent.now)) result work.new.items }
     ensures size { IfOk result (λ h. h.size ≤ HELD) }
     ensures reference { W.reference wire.new ≡ W.reference wire.old }
+    ensures comes { W.comes wire.old wire.new }
     ensures later { W.faults wire.old ≤ W.faults wire.new }
     ensures down { IfErr result (λ e. e ≡ LinkFault.Down →
         Rose (W.faults wire.old) (W.faults wire.new)) }
@@ -106,7 +107,7 @@ fn data_in_of(reply: &Result<Reply, SenseFault>) -> usize
 }
 
 impl<W: Wire + Drop> Initiator<W> {
-    ghost use Rattle.pr_initiator.specs.Links.{link_of, next_tag, HasReplied, Yields};
+    ghost use Rattle.pr_initiator.specs.Links.{Comes, link_of, next_tag, HasReplied, Yields};
 
     /// An initiator on a wire. All memory is taken here: 524,320 bytes.
     ///
@@ -151,6 +152,7 @@ impl<W: Wire + Drop> Initiator<W> {
             (spelled (request_frame (request.Login 1 nexus) 0 self.old.tag []))) }
         ensures tag { self.new.tag ≡ next_tag self.old.tag }
         ensures reference { W.reference self.new.wire ≡ W.reference self.old.wire }
+        ensures comes { Comes self.old self.new }
         ensures later { W.faults self.old.wire ≤ W.faults self.new.wire }
         ensures down { IfErr result (λ e. e ≡ LinkFault.Down →
             Rose (W.faults self.old.wire) (W.faults self.new.wire)) }
@@ -174,6 +176,7 @@ impl<W: Wire + Drop> Initiator<W> {
         ensures tag { OnOk result (self.new.tag ≡ 1) }
         ensures place { OnOk result (self.new.place ≡ 0) }
         ensures reference { W.reference self.new.wire ≡ W.reference self.old.wire }
+        ensures comes { Comes self.old self.new }
         ensures later { W.faults self.old.wire ≤ W.faults self.new.wire }
         ensures nothing { OnErr result (W.talk self.new.wire ≡ W.talk self.old.wire) }
         ensures fault { IfErr result (λ e. e ≡ LinkFault.Down) }
@@ -205,6 +208,7 @@ impl<W: Wire + Drop> Initiator<W> {
             (spelled (request_frame request.Logout 0 self.old.tag []))) }
         ensures tag { self.new.tag ≡ next_tag self.old.tag }
         ensures reference { W.reference self.new.wire ≡ W.reference self.old.wire }
+        ensures comes { Comes self.old self.new }
         ensures later { W.faults self.old.wire ≤ W.faults self.new.wire }
         ensures down { IfErr result (λ e. e ≡ LinkFault.Down →
             Rose (W.faults self.old.wire) (W.faults self.new.wire)) }
@@ -233,6 +237,7 @@ impl<W: Wire + Drop> Initiator<W> {
             (spelled (request_frame (request.Command cdb (length out.now)) 0 self.old.tag out.now))) }
         ensures tag { self.new.tag ≡ next_tag self.old.tag }
         ensures reference { W.reference self.new.wire ≡ W.reference self.old.wire }
+        ensures comes { Comes self.old self.new }
         ensures later { W.faults self.old.wire ≤ W.faults self.new.wire }
         ensures down { IfErr result (λ e. e ≡ LinkFault.Down →
             Rose (W.faults self.old.wire) (W.faults self.new.wire)) }
@@ -269,6 +274,7 @@ impl<W: Wire + Drop> Initiator<W> {
             (spelled (request_frame request.now 0 self.old.tag sent.now)) h.reply) }
         ensures tag { self.new.tag ≡ next_tag self.old.tag }
         ensures reference { W.reference self.new.wire ≡ W.reference self.old.wire }
+        ensures comes { Comes self.old self.new }
         ensures later { W.faults self.old.wire ≤ W.faults self.new.wire }
         ensures down { IfErr result (λ e. e ≡ LinkFault.Down →
             Rose (W.faults self.old.wire) (W.faults self.new.wire)) }

@@ -21,6 +21,7 @@ pub(crate) fn receive_up_to<W: Wire>(wire: &mut W, buf: &mut [u8]) -> Result<usi
         Goes (W.talk wire.old) (W.talk wire.new) [] heard) }
     ensures ended { IfOk result (λ n. n < length buf.old → WasEnded (W.talk wire.new)) }
     ensures reference { W.reference wire.new ≡ W.reference wire.old }
+    ensures comes { W.comes wire.old wire.new }
     ensures cause { HasCause (W.faults wire.old) (W.faults wire.new) result }
 {
     let mut at = 0;
@@ -55,6 +56,7 @@ fn hear_length<W: Wire>(wire: &mut W, work: &mut [u8]) -> Result<usize, Unheard>
     ensures few { IfOk result (λ k. 4 + k ≤ HELD) }
     ensures none { IfErr result (HearsNot (W.talk wire.old) (W.talk wire.new)) }
     ensures reference { W.reference wire.new ≡ W.reference wire.old }
+    ensures comes { W.comes wire.old wire.new }
     ensures later { W.faults wire.old ≤ W.faults wire.new }
     ensures down { IfErr result (λ e. e ≡ Unheard.Down →
         Rose (W.faults wire.old) (W.faults wire.new)) }
@@ -81,6 +83,7 @@ fn hear_rest<W: Wire>(wire: &mut W, work: &mut [u8], lacks: usize) -> Result<Fra
     ensures hears { (t : Option Talk) → Goes t (W.talk wire.old) [] (take 4 work.old) →
         Hears t (W.talk wire.new) result work.new }
     ensures reference { W.reference wire.new ≡ W.reference wire.old }
+    ensures comes { W.comes wire.old wire.new }
     ensures later { W.faults wire.old ≤ W.faults wire.new }
     ensures down { IfErr result (λ e. e ≡ Unheard.Down →
         Rose (W.faults wire.old) (W.faults wire.new)) }
@@ -103,6 +106,7 @@ pub(crate) fn hear<W: Wire>(wire: &mut W, work: &mut [u8]) -> Result<Frame, Unhe
     requires { HELD ≤ length work.old }
     ensures hears { Hears (W.talk wire.old) (W.talk wire.new) result work.new }
     ensures reference { W.reference wire.new ≡ W.reference wire.old }
+    ensures comes { W.comes wire.old wire.new }
     ensures later { W.faults wire.old ≤ W.faults wire.new }
     ensures down { IfErr result (λ e. e ≡ Unheard.Down →
         Rose (W.faults wire.old) (W.faults wire.new)) }

@@ -20,6 +20,7 @@ fn send<W: Wire>(wire: &mut W, tag: u32, request: &Request, sent: &[u8]) -> Resu
         (spelled (request_frame request.now 0 tag sent.now) ≡ said ++ unsaid) ×
         Goes (W.talk wire.old) (W.talk wire.new) said []) }
     ensures reference { W.reference wire.new ≡ W.reference wire.old }
+    ensures comes { W.comes wire.old wire.new }
     ensures cause { HasCause (W.faults wire.old) (W.faults wire.new) result }
 {
     let mut head = [0; 32];
@@ -43,6 +44,7 @@ pub(crate) fn speak<W: Wire>(
     ensures speaks { Speaks (W.talk wire.old) (W.talk wire.new)
         (spelled (request_frame request.now 0 tag sent.now)) result work.new }
     ensures reference { W.reference wire.new ≡ W.reference wire.old }
+    ensures comes { W.comes wire.old wire.new }
     ensures later { W.faults wire.old ≤ W.faults wire.new }
     ensures down { IfErr result (λ e. e ≡ Unheard.Down →
         Rose (W.faults wire.old) (W.faults wire.new)) }

@@ -33,6 +33,7 @@ fn run_over<W: Wire + Drop, K: Sink>(
         (told_wire W.Wire result.1) (told_sink K.Sink sink.old) (told_sink K.Sink sink.new)
         result.0 }
     ensures reference { W.reference result.1 ≡ (link_of initiator).reference }
+    ensures comes { W.comes initiator.wire result.1 }
 {
     let ran = run(&mut initiator, sink, plan);
     (exit_of(ran), initiator.into_wire())
@@ -49,6 +50,7 @@ fn read_and_run<W: Wire + Drop, K: Sink>(
         (told_wire W.Wire result.1) (told_sink K.Sink sink.old) (told_sink K.Sink sink.new)
         result.0 }
     ensures reference { W.reference result.1 ≡ W.reference wire }
+    ensures comes { W.comes wire result.1 }
 {
     match plan_of(alloc, words) {
         Ok(plan) => match Initiator::new(alloc, wire) {
@@ -73,6 +75,7 @@ pub fn persist_main<W: Wire, K: Sink>(
         result }
     ensures words { result ≡ PersistExit.BadWords →
         wanted_by (map (λ w. w.now) words.now) ≡ None }
+    ensures comes { W.comes wire.old wire.new }
 {
     let (exit, _wire) = read_and_run(alloc, words, wire, sink);
     exit

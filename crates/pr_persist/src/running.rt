@@ -1,6 +1,6 @@
 ghost use Rattle.std.specs.Prelude.{◌≡◌, ◌<◌};
 ghost use Rattle.pr_io.specs.Told.{told_sink};
-ghost use Rattle.pr_initiator.specs.Links.{link_of};
+ghost use Rattle.pr_initiator.specs.Links.{Comes, link_of};
 ghost use Rattle.pr_persist.specs.Asking.{wanted_of};
 ghost use Rattle.pr_persist.specs.Whole.{at, Looks, Tells, ActsAndTells, Finishes, Continues, Runs};
 
@@ -17,8 +17,9 @@ fn look<W: Wire + Drop, K: Sink>(
     sink: &mut K,
     inquires: bool,
 ) -> Result<(), PersistExit>
-    ensures { Looks inquires (at (link_of initiator.old) (told_sink K.Sink sink.old))
+    ensures step { Looks inquires (at (link_of initiator.old) (told_sink K.Sink sink.old))
         (at (link_of initiator.new) (told_sink K.Sink sink.new)) result }
+    ensures comes { Comes initiator.old initiator.new }
 {
     if !inquires {
         return Ok(());
@@ -51,9 +52,10 @@ fn act_and_tell<W: Wire + Drop, K: Sink>(
     plan: &Plan<'_>,
 ) -> Result<(), PersistExit>
     requires { plan.now.fields.kind < 16 }
-    ensures { ActsAndTells (wanted_of plan.now)
+    ensures step { ActsAndTells (wanted_of plan.now)
         (at (link_of initiator.old) (told_sink K.Sink sink.old))
         (at (link_of initiator.new) (told_sink K.Sink sink.new)) result }
+    ensures comes { Comes initiator.old initiator.new }
 {
     match act(initiator, plan) {
         Ok(_) => tell(initiator, sink, plan.action),
@@ -68,9 +70,10 @@ fn finish<W: Wire + Drop, K: Sink>(
     plan: &Plan<'_>,
 ) -> Result<(), PersistExit>
     requires { plan.now.fields.kind < 16 }
-    ensures { Finishes (wanted_of plan.now)
+    ensures step { Finishes (wanted_of plan.now)
         (at (link_of initiator.old) (told_sink K.Sink sink.old))
         (at (link_of initiator.new) (told_sink K.Sink sink.new)) result }
+    ensures comes { Comes initiator.old initiator.new }
 {
     match act_and_tell(initiator, sink, plan) {
         Ok(()) => close(initiator),
@@ -85,9 +88,10 @@ fn go_on<W: Wire + Drop, K: Sink>(
     plan: &Plan<'_>,
 ) -> Result<(), PersistExit>
     requires { plan.now.fields.kind < 16 }
-    ensures { Continues (wanted_of plan.now)
+    ensures step { Continues (wanted_of plan.now)
         (at (link_of initiator.old) (told_sink K.Sink sink.old))
         (at (link_of initiator.new) (told_sink K.Sink sink.new)) result }
+    ensures comes { Comes initiator.old initiator.new }
 {
     match look(initiator, sink, plan.inquires) {
         Ok(()) => finish(initiator, sink, plan),
@@ -106,8 +110,9 @@ pub(crate) fn run<W: Wire + Drop, K: Sink>(
     plan: &Plan<'_>,
 ) -> Result<(), PersistExit>
     requires { plan.now.fields.kind < 16 }
-    ensures { Runs (wanted_of plan.now) (at (link_of initiator.old) (told_sink K.Sink sink.old))
+    ensures step { Runs (wanted_of plan.now) (at (link_of initiator.old) (told_sink K.Sink sink.old))
         (at (link_of initiator.new) (told_sink K.Sink sink.new)) result }
+    ensures comes { Comes initiator.old initiator.new }
 {
     match open(initiator, plan) {
         Ok(_) => go_on(initiator, sink, plan),

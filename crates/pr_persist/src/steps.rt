@@ -1,9 +1,10 @@
 ghost use Rattle.std.specs.Prelude.{◌≡◌, ◌<◌};
 ghost use Rattle.pr_initiator.specs.Commands.{HasAnswered};
-ghost use Rattle.pr_initiator.specs.Links.{link_of};
+ghost use Rattle.pr_initiator.specs.Links.{Comes, link_of};
+ghost use Rattle.pr_initiator.specs.Logins.{HasDialled, HasLoggedIn, HasLoggedOut};
 ghost use Rattle.pr_persist.specs.Asking.{wanted_of};
 ghost use Rattle.pr_persist.specs.Exits.{judged_by, linked_by};
-ghost use Rattle.pr_persist.specs.Runs.{Opens, Enters, Inquires, Acts, Closes, HasDialled, HasLoggedIn, HasLoggedOut, order_of, changes_by};
+ghost use Rattle.pr_persist.specs.Runs.{Opens, Enters, Inquires, Acts, Closes, order_of, changes_by};
 
 use crate::asked::Asked;
 use crate::exit::PersistExit;
@@ -43,21 +44,24 @@ fn judged(asked: Asked, answer: Result<Answer, LinkFault>) -> Result<Answer, Per
 
 /// Connects to the target.
 fn dial<W: Wire + Drop>(initiator: &mut Initiator<W>, address: &str) -> Result<(), LinkFault>
-    ensures { HasDialled address.now (link_of initiator.old) (link_of initiator.new) result }
+    ensures step { HasDialled address.now (link_of initiator.old) (link_of initiator.new) result }
+    ensures comes { Comes initiator.old initiator.new }
 {
     initiator.dial(address)
 }
 
 /// Logs the nexus in.
 fn log_in<W: Wire + Drop>(initiator: &mut Initiator<W>, nexus: Nexus) -> Result<(), LinkFault>
-    ensures { HasLoggedIn nexus (link_of initiator.old) (link_of initiator.new) result }
+    ensures step { HasLoggedIn nexus (link_of initiator.old) (link_of initiator.new) result }
+    ensures comes { Comes initiator.old initiator.new }
 {
     initiator.login(nexus)
 }
 
 /// Logs the nexus out.
 fn log_out<W: Wire + Drop>(initiator: &mut Initiator<W>) -> Result<(), LinkFault>
-    ensures { HasLoggedOut (link_of initiator.old) (link_of initiator.new) result }
+    ensures step { HasLoggedOut (link_of initiator.old) (link_of initiator.new) result }
+    ensures comes { Comes initiator.old initiator.new }
 {
     initiator.logout()
 }
@@ -69,8 +73,9 @@ fn change<W: Wire + Drop>(
     fields: &Fields,
 ) -> Result<Answer, LinkFault>
     requires { fields.now.kind < 16 }
-    ensures { HasAnswered (link_of initiator.old) (link_of initiator.new)
+    ensures step { HasAnswered (link_of initiator.old) (link_of initiator.new)
         (changes_by service fields.now) result }
+    ensures comes { Comes initiator.old initiator.new }
 {
     let (key, other, kind) = (fields.key, fields.action_key, fields.kind);
     match service {
@@ -91,8 +96,9 @@ fn send<W: Wire + Drop>(
     fields: &Fields,
 ) -> Result<Answer, LinkFault>
     requires { fields.now.kind < 16 }
-    ensures { HasAnswered (link_of initiator.old) (link_of initiator.new)
+    ensures step { HasAnswered (link_of initiator.old) (link_of initiator.new)
         (order_of action fields.now) result }
+    ensures comes { Comes initiator.old initiator.new }
 {
     match action {
         Action::In(InService::ReadKeys) => initiator.read_keys(),
@@ -105,7 +111,8 @@ fn send<W: Wire + Drop>(
 
 /// Logs in, and asks until the target is ready.
 fn enter<W: Wire + Drop>(initiator: &mut Initiator<W>, nexus: Nexus) -> Result<Answer, PersistExit>
-    ensures { Enters nexus (link_of initiator.old) (link_of initiator.new) result }
+    ensures step { Enters nexus (link_of initiator.old) (link_of initiator.new) result }
+    ensures comes { Comes initiator.old initiator.new }
 {
     match linked(Asked::Login, log_in(initiator, nexus)) {
         Ok(()) => judged(Asked::Readiness, initiator.ready()),
@@ -122,7 +129,8 @@ pub(crate) fn open<W: Wire + Drop>(
     initiator: &mut Initiator<W>,
     plan: &Plan<'_>,
 ) -> Result<Answer, PersistExit>
-    ensures { Opens (wanted_of plan.now) (link_of initiator.old) (link_of initiator.new) result }
+    ensures step { Opens (wanted_of plan.now) (link_of initiator.old) (link_of initiator.new) result }
+    ensures comes { Comes initiator.old initiator.new }
 {
     match linked(Asked::Connection, dial(initiator, plan.address)) {
         Ok(()) => enter(initiator, plan.nexus),
@@ -136,7 +144,8 @@ pub(crate) fn open<W: Wire + Drop>(
 ///
 /// The exit with which the run ends.
 pub(crate) fn inquire<W: Wire + Drop>(initiator: &mut Initiator<W>) -> Result<Answer, PersistExit>
-    ensures { Inquires (link_of initiator.old) (link_of initiator.new) result }
+    ensures step { Inquires (link_of initiator.old) (link_of initiator.new) result }
+    ensures comes { Comes initiator.old initiator.new }
 {
     judged(Asked::Inquiry, initiator.inquiry())
 }
@@ -151,7 +160,8 @@ pub(crate) fn act<W: Wire + Drop>(
     plan: &Plan<'_>,
 ) -> Result<Answer, PersistExit>
     requires { plan.now.fields.kind < 16 }
-    ensures { Acts (wanted_of plan.now) (link_of initiator.old) (link_of initiator.new) result }
+    ensures step { Acts (wanted_of plan.now) (link_of initiator.old) (link_of initiator.new) result }
+    ensures comes { Comes initiator.old initiator.new }
 {
     judged(
         Asked::Command(plan.action),
@@ -165,7 +175,8 @@ pub(crate) fn act<W: Wire + Drop>(
 ///
 /// The exit with which the run ends.
 pub(crate) fn close<W: Wire + Drop>(initiator: &mut Initiator<W>) -> Result<(), PersistExit>
-    ensures { Closes (link_of initiator.old) (link_of initiator.new) result }
+    ensures step { Closes (link_of initiator.old) (link_of initiator.new) result }
+    ensures comes { Comes initiator.old initiator.new }
 {
     linked(Asked::Logout, log_out(initiator))
 }

@@ -7,6 +7,7 @@ invariant-loop-at g l =
     record {
       within : l.at ≤ length l.buf;
       goes : Goes (g.W.Wire.talk l.initial.wire) (g.W.Wire.talk l.wire) [] (take l.at l.buf);
+      comes : g.W.Wire.comes l.initial.wire l.wire;
       reference : g.W.Wire.reference l.wire ≡ g.W.Wire.reference l.initial.wire;
       calm : g.W.Wire.faults l.wire ≡ g.W.Wire.faults l.initial.wire;
     }

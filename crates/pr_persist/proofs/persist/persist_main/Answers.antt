@@ -27,3 +27,8 @@ returns-clause-words g c is =
     let sink = told_sink g.K.Sink c.args.sink.now in
     let printed = told_sink g.K.Sink c.read_and_run-exit.new.sink in
     refused_alone asked old new sink printed (subst (λ (e : PersistExit). Ends asked old new sink printed e) is c.read_and_run-exit.ensures.ends)
+
+pub returns-clause-comes : goal.returns-clause-comes
+returns-clause-comes g c =
+    let left = sym (c.wire-1.given.1 (sym (same_name _ _ c.read_and_run-exit.ensures.reference))) in
+    subst (g.W.Wire.comes c.args.wire.now) left c.read_and_run-exit.ensures.comes

@@ -1,4 +1,4 @@
-use Rattle.std.proofs.Common.{ap, sym, refl, ◌∙◌}
+use Rattle.std.proofs.Common.{ap, sym, refl, subst, ◌∙◌}
 use Rattle.pr_initiator.specs.Links.{link_of}
 use Rattle.pr_persist.specs.Asking.{wanted_of}
 use Rattle.pr_persist.specs.Whole.{told_wire}
@@ -11,11 +11,14 @@ returns-clause-run g c =
       first = link_of c.args.initiator;
       last = link_of c.run-ran.new.initiator;
       result = c.run-ran.result;
-      runs = c.run-ran.ensures;
+      runs = c.run-ran.ensures.step;
       ends = c.exit_of.ensures;
       before = refl;
       after = ap (told_wire g.W.Wire) (sym c.into_wire.ensures);
     }
 
 pub returns-clause-reference : goal.returns-clause-reference
-returns-clause-reference g c = ap g.W.Wire.reference c.into_wire.ensures ∙ runs_keep (wanted_of c.args.plan.now) _ _ c.run-ran.result c.run-ran.ensures
+returns-clause-reference g c = ap g.W.Wire.reference c.into_wire.ensures ∙ runs_keep (wanted_of c.args.plan.now) _ _ c.run-ran.result c.run-ran.ensures.step
+
+pub returns-clause-comes : goal.returns-clause-comes
+returns-clause-comes g c = subst (g.W.Wire.comes c.args.initiator.wire) (sym c.into_wire.ensures) c.run-ran.ensures.comes.1

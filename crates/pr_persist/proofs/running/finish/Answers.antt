@@ -6,8 +6,8 @@ use Rattle.pr_persist.specs.Whole.{Quiet, ActsAndTells}
 use Rattle.pr_persist.proofs.Stepping.{ended, went, told}
 use Rattle.pr_persist.proofs.running.finish.Goals as goal
 
-pub returns-in-Ok : goal.returns-in-Ok
-returns-in-Ok g c = went (ActsAndTells (wanted_of c.args.plan.now)) (λ u. Quiet Closes) _ _ _ tt _ (told (ActsAndTells (wanted_of c.args.plan.now)) _ _ c.act_and_tell.result (Ok tt) c.in-Ok.is c.act_and_tell.ensures) (c.close.ensures, refl)
+pub returns-in-Ok-clause-step : goal.returns-in-Ok-clause-step
+returns-in-Ok-clause-step g c = went (ActsAndTells (wanted_of c.args.plan.now)) (λ u. Quiet Closes) _ _ _ tt _ (told (ActsAndTells (wanted_of c.args.plan.now)) _ _ c.act_and_tell.result (Ok tt) c.in-Ok.is c.act_and_tell.ensures.step) (c.close.ensures.step, refl)
 
-pub returns-in-Err : goal.returns-in-Err
-returns-in-Err g c = ended (ActsAndTells (wanted_of c.args.plan.now)) (λ u. Quiet Closes) _ _ c.in-Err.exit (told (ActsAndTells (wanted_of c.args.plan.now)) _ _ c.act_and_tell.result (Err c.in-Err.exit) c.in-Err.is c.act_and_tell.ensures)
+pub returns-in-Err-clause-step : goal.returns-in-Err-clause-step
+returns-in-Err-clause-step g c = ended (ActsAndTells (wanted_of c.args.plan.now)) (λ u. Quiet Closes) _ _ c.in-Err.exit (told (ActsAndTells (wanted_of c.args.plan.now)) _ _ c.act_and_tell.result (Err c.in-Err.exit) c.in-Err.is c.act_and_tell.ensures.step)
