@@ -1,0 +1,10 @@
+use Rattle.pr_fence.specs.Steps.{Holds}
+use Rattle.pr_fence.specs.Devices.{Ousts}
+use Rattle.pr_fence.proofs.Stepping.{went, failed}
+use Rattle.pr_fence.proofs.devices.hold_and_oust.Goals as goal
+
+pub returns-in-Ok-clause-step : goal.returns-in-Ok-clause-step
+returns-in-Ok-clause-step g c = went (Holds c.args.own) (λ u. Ousts c.args.own c.args.victim c.args.was) _ _ _ c.hold.result tt _ (c.hold.ensures.step) c.in-Ok.is c.oust.ensures.step
+
+pub returns-in-Err-clause-step : goal.returns-in-Err-clause-step
+returns-in-Err-clause-step g c = failed (Holds c.args.own) (λ u. Ousts c.args.own c.args.victim c.args.was) _ _ c.hold.result c.in-Err.fault (c.hold.ensures.step) c.in-Err.is

@@ -1,0 +1,10 @@
+pub mod Keys
+pub mod Exits
+pub mod Seeing
+pub mod Steps
+pub mod Devices
+pub mod Words
+pub mod Views
+pub mod Texts
+pub mod Whole
+pub mod Ousting
