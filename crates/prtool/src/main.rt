@@ -6,6 +6,7 @@ mod media;
 
 use line::{command_line, cut};
 use media::{fresh_image, zero_blocks};
+use pr_fence::{explain as explain_fence, fence_main};
 use pr_io::{StdinSource, StdoutSink, SureDisk, SureMedium, TcpWire};
 use pr_persist::{explain, persist_main};
 use pr_tool::{Exit, replay_main, show_main};
@@ -36,6 +37,7 @@ fn command(rt: &HostRuntime, line: &str) -> Result<u8, AllocError> {
     match &words[1..] {
         ["show"] => Ok(ended(rt, show(rt)?)),
         words @ ["persist", ..] => Ok(persist(rt, words)),
+        words @ ["fence", ..] => Ok(fence(rt, words)),
         words => Ok(ended(rt, replay(rt, words)?)),
     }
 }
@@ -79,6 +81,18 @@ fn persist(rt: &HostRuntime, words: &[&str]) -> u8 {
     let mut sink = StdoutSink::new(rt.stdout());
     let exit = persist_main(alloc, words, &mut wire, &mut sink);
     if let Ok(Some(line)) = explain(alloc, words, exit) {
+        complain(rt, &line);
+    }
+    exit.status()
+}
+
+/// Lets nodes in on devices over TCP, or fences them off, and tells the user of a fault.
+fn fence(rt: &HostRuntime, words: &[&str]) -> u8 {
+    let alloc = rt.alloc();
+    let mut wire = TcpWire::new(rt);
+    let mut sink = StdoutSink::new(rt.stdout());
+    let exit = fence_main(alloc, words, &mut wire, &mut sink);
+    if let Ok(Some(line)) = explain_fence(alloc, words, exit) {
         complain(rt, &line);
     }
     exit.status()
