@@ -61,7 +61,7 @@ grows_at Fresh bytes ys place made = ap (turn_at Fresh place) (front_grows Targe
 grows_at (In n) bytes ys place made = ap (turn_at (In n) place) (front_grows Target bytes ys (in_there n place (front Target bytes) made)) ∙ turn_at_more (In n) place (front Target bytes) ys
 grows_at (Busy n j) bytes ys place made = ap (Asks n (Step (carried j))) (fun_ext (after_step_more n j bytes ys place))
 
-makes_grows : (who : ℕ) (l m : Lane) (es : History) (reply ys : List ℕ) → IsMade (turn l) → Makes who l (turn l) es reply m → Makes who (arrived l ys) (turn (arrived l ys)) es reply (arrived m ys)
+pub makes_grows : (who : ℕ) (l m : Lane) (es : History) (reply ys : List ℕ) → IsMade (turn l) → Makes who l (turn l) es reply m → Makes who (arrived l ys) (turn (arrived l ys)) es reply (arrived m ys)
 makes_grows who l m es reply ys made makes = subst (λ (t : Turn). Makes who (arrived l ys) t es reply (arrived m ys)) (sym (grows_at l.phase l.bytes ys l.place made)) (makes_more who l m (turn l) es reply ys makes)
 
 -- nothing was read yet

@@ -9,3 +9,7 @@ mod Drivings
 pub mod Sharings
 pub mod Growing
 pub mod Servings
+mod Reaching
+mod LaterBytes
+mod Shrinking
+mod Peers

@@ -12,3 +12,6 @@ pub mod Coming
 pub mod Driving
 pub mod Sharing
 pub mod Ends
+pub mod Reached
+pub mod Answering
+pub mod Peers

@@ -7,6 +7,7 @@ mod acting;
 mod asked;
 mod driving;
 mod job;
+mod lane_peer;
 mod serving;
 mod session;
 mod session_end;
@@ -16,6 +17,7 @@ mod work;
 
 pub use act::{Act, Out, Want};
 pub use driving::{close, drive};
+pub use lane_peer::LanePeer;
 pub use serving::serve_turn;
 pub use session::Session;
 pub use session_end::SessionEnd;
