@@ -13,3 +13,4 @@ mod Reaching
 mod LaterBytes
 mod Shrinking
 mod Peers
+pub mod Opening

@@ -23,3 +23,6 @@ pub use session::Session;
 pub use session_end::SessionEnd;
 pub use sharing::drive_shared;
 pub use state::Rejection;
+
+#[cfg(test)]
+mod tests;
