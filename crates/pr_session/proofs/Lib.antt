@@ -14,3 +14,6 @@ mod LaterBytes
 mod Shrinking
 mod Peers
 pub mod Opening
+pub mod Counting
+pub mod Closings
+pub mod Holdings

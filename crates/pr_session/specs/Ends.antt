@@ -1,10 +1,10 @@
 -- How far a connection was served, and how that ended (this project's own).
-use Rattle.std.specs.Prelude.{◌≡◌, ◌⊎◌, ℕ, ◌+◌, ◌<◌, ◌≤◌, ◌^◌, ◌==◌, if◌then◌else◌, List, [], ◌∷◌, ◌++◌, length, Option, Some, None}
+use Rattle.std.specs.Prelude.{◌≡◌, ◌⊎◌, ℕ, ◌+◌, ◌<◌, ◌≤◌, ◌^◌, ◌==◌, if◌then◌else◌, Bool, true, false, List, [], ◌∷◌, ◌++◌, length, Option, Some, None}
 use Rattle.pr_grammar.specs.Frames.{Frame}
 use Rattle.pr_model.specs.Entries as entries
 use Rattle.pr_model.specs.Entries.{Out, History}
 use Rattle.pr_model.specs.Lanes.{Dead, AwaitsFrame, Lane, Turn, Idle, Silent, Asks, turn, arrived, after_logout, rejected}
-use Rattle.pr_model.specs.Runs.{Makes}
+use Rattle.pr_model.specs.Runs.{Makes, closing}
 use Rattle.pr_model.specs.Sessions.{AreTurns, AsksFor, connection}
 use Rattle.pr_io.specs.Causes.{Rose}
 use Rattle.pr_io.specs.Streams.{Took, Put}
@@ -37,6 +37,16 @@ replies_by (entries.Restored value) = 0
 abbrev pub replies_in : History → ℕ
 replies_in [] = 0
 replies_in (e ∷ es) = replies_by e.out + replies_in es
+
+-- to how many frames these bytes reply, of one turn: to one, where there are any
+abbrev pub frames_by : List ℕ → ℕ
+frames_by [] = 0
+frames_by (b ∷ bs) = 1
+
+-- and a turn that says whether it replied to one
+abbrev pub frames_if : Bool → ℕ
+frames_if true = 1
+frames_if false = 0
 
 -- turns from a new connection on made these entries and replies, whatever bytes come behind those that were read
 pub record Serves (who : ℕ) (read : List ℕ) (es : History) (replies : List ℕ) (l : Lane) : Type 0 where
@@ -140,3 +150,42 @@ IsCaused ReadFault source source_now sink sink_now = Rose source source_now
 IsCaused WriteFault source source_now sink sink_now = Rose sink sink_now
 IsCaused (SpentTicket ticket) source source_now sink sink_now = 2 ^ 62 ≤ ticket
 IsCaused _ source source_now sink sink_now = Unit {0}
+
+-- how many replies were made before a turn and with it, with which serving ended so: it made one at the most, and none where the connection was over before
+abbrev pub MakesLast : SessionEnd → Lane → ℕ → ℕ → Type 0
+MakesLast Closed l before now = (now ≤ 1 + before) × ((l.phase ≡ Dead → ⊥) → now ≡ before)
+MakesLast (Rejected place reason) l before now = now ≤ 1 + before
+MakesLast WriteFault l before now = now ≤ 1 + before
+MakesLast SpentFrames l before now = ⊥
+MakesLast _ l before now = now ≡ before
+
+-- how many frames were replied to where serving ended so: all that one connection may have where they are spent, and fewer where it could have gone on but for its source
+abbrev pub IsWithin : SessionEnd → Lane → ℕ → Type 0
+IsWithin SpentFrames l n = n ≡ 2 ^ 32
+IsWithin (Cut place) l n = n < 2 ^ 32
+IsWithin ReadFault l n = n < 2 ^ 32
+IsWithin Closed l n = (n ≤ 2 ^ 32) × ((l.phase ≡ Dead → ⊥) → n < 2 ^ 32)
+IsWithin _ l n = n ≤ 2 ^ 32
+
+-- but for an end where the gate gave no turn
+abbrev pub UnlessSpent : SessionEnd → Type 0 → Type 0
+UnlessSpent (SpentTicket ticket) Holds = Unit {0}
+UnlessSpent _ Holds = Holds
+
+-- the Logout that nobody asked for, of a nexus that is logged in when serving has ended so
+abbrev pub closing_at : SessionEnd → ℕ → Lane → History
+closing_at (SpentTicket ticket) who l = []
+closing_at _ who l = closing who l.phase
+
+-- a connection was served, from these states of source, sink and own entries to those, and ended so: what was read asked for the entries, as the end's row says, what was sent replies to them, and a nexus that was still logged in then got its Logout
+pub record Served (end : SessionEnd) (who : ℕ) (rest rest_now written written_now : Option (List ℕ)) (own own_now : History) : Type 0 where
+  pub read : List ℕ
+  pub asked : History
+  pub sent : List ℕ
+  pub last : Lane
+  pub took : Took rest rest_now read
+  pub put : Put written written_now sent
+  pub row : Row end who read asked sent last
+  pub within : IsWithin end last (replies_in asked)
+  pub comes : ComesOfEnd end last rest_now
+  pub published : own_now ≡ own ++ (asked ++ closing_at end who last)

@@ -1,5 +1,5 @@
 -- Tasks as a session keeps them, and as the definitions have them.
-use Rattle.std.specs.Prelude.{◌≡◌, ℕ, ◌+◌, ◌-◌, ◌≤◌, ◌<◌, List, slice_range, min}
+use Rattle.std.specs.Prelude.{◌≡◌, ℕ, ◌+◌, ◌-◌, ◌/◌, ◌≤◌, ◌<◌, List, slice_range, min}
 use Rattle.pr_words.specs.declared.limits.TheConstants.{BLOCK, COMMAND_HEAD, DATA, HELD}
 use Rattle.pr_words.specs.declared.task.Way.{Way}
 use Rattle.pr_words.specs.declared.task.Way.TheVariants as ways
@@ -41,6 +41,14 @@ data_in_by ways.Write start stop = 0
 
 abbrev pub data_in_of : Job → ℕ
 data_in_of j = data_in_by j.way j.start j.stop
+
+-- how many blocks are moved of a task: what was read, or what of its data-out was carried
+abbrev pub moved_by : Way → ℕ → ℕ → ℕ
+moved_by ways.Read start stop = (stop - start) / BLOCK
+moved_by ways.Write start stop = (start - COMMAND_HEAD) / BLOCK
+
+abbrev pub moved_of : Job → ℕ
+moved_of j = moved_by j.way j.start j.stop
 
 -- how many bytes a task's next step carries
 abbrev pub carried_in : Way → ℕ → ℕ → ℕ

@@ -9,7 +9,7 @@ use Rattle.pr_session.specs.declared.state.State.TheVariants.{Fresh, In, Busy, D
 use Rattle.pr_session.specs.declared.asked.Asked.{Asked}
 use Rattle.pr_session.specs.declared.asked.Asked.TheVariants as asked
 use Rattle.pr_session.specs.declared.act.Out as acts
-use Rattle.pr_session.specs.Jobs.{job_of}
+use Rattle.pr_session.specs.Jobs.{job_of, moved_of}
 use Rattle.pr_session.specs.Acts.{outcome_by}
 use Rattle.pr_session.specs.Asking.{next_by, rejection_by}
 
@@ -36,6 +36,11 @@ phase_of (Asking a) work = lanes.Dead
 abbrev pub is_busy : State → Bool
 is_busy (Busy n j) = true
 is_busy _ = false
+
+-- whose task runs, and how many blocks of it are moved
+abbrev pub moved_in : State → Option (Nexus × ℕ)
+moved_in (Busy n j) = Some (n, moved_of j)
+moved_in _ = None
 
 abbrev pub nexus_by : Asked → Option Nexus
 nexus_by (asked.Login head n version) = None

@@ -24,7 +24,7 @@ pub(crate) struct Job {
 }
 
 impl Job {
-    ghost use Rattle.pr_session.specs.Jobs.{first_stop, block_place, data_in_of, carried_of};
+    ghost use Rattle.pr_session.specs.Jobs.{first_stop, block_place, data_in_of, carried_of, moved_of};
 
     /// The task of a command that came with so many bytes of data-out, in a frame with this head.
     pub(crate) fn begin(head: Frame, way: Way, sent: usize) -> Job
@@ -103,6 +103,17 @@ impl Job {
             start: self.start,
             stop: self.stop + BLOCK,
         }
+    }
+
+    /// How many blocks of it are moved.
+    pub(crate) fn moved(&self) -> u32
+        ensures { result ≡ moved_of self.now }
+    {
+        let bytes = match self.way {
+            Way::Read => self.stop - self.start,
+            Way::Write => self.start - COMMAND_HEAD,
+        };
+        (bytes / BLOCK) as u32
     }
 
     /// How many bytes of data-in it has, from the place of a command's data on, once it is done.

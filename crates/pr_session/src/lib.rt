@@ -1,11 +1,14 @@
-//! A session: the bytes of one connection, what they ask of a target, and the replies. It knows
-//! neither the target nor how bytes come and go, so any owner of a target can drive it.
+//! A session: the bytes of one connection, what they ask of a target, and the replies.
+//!
+//! Any owner of a target can drive one: it feeds the bytes, has the acts done, and sends the
+//! replies. With a target that threads share, `serve_held` does so from a source and a sink.
 #![tactic(auto)]
 
 mod act;
 mod acting;
 mod asked;
 mod driving;
+mod held;
 mod job;
 mod lane_peer;
 mod serving;
@@ -18,9 +21,10 @@ mod work;
 pub use act::{Act, Out, Want};
 pub use driving::{close, drive};
 pub use lane_peer::LanePeer;
+pub use held::serve_held;
 pub use serving::serve_turn;
 pub use session::Session;
-pub use session_end::SessionEnd;
+pub use session_end::{FRAMES, SessionEnd};
 pub use sharing::drive_shared;
 pub use state::Rejection;
 

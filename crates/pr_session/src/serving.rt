@@ -1,6 +1,6 @@
 //! Serving a connection from a source and a sink, with a target that threads share.
 
-ghost use Rattle.std.specs.Prelude.{◌≡◌, ◌≤◌, ◌^◌, ℕ, List, Option, [], Some, true, IfOk, IfErr, MatchBool};
+ghost use Rattle.std.specs.Prelude.{◌≡◌, ◌≤◌, ◌+◌, ◌^◌, ℕ, List, Option, [], Some, true, IfOk, IfErr, MatchBool};
 ghost use mathlib.Core.List.{IsPrefix};
 ghost use Rattle.pr_io.specs.Causes.{Rose};
 ghost use Rattle.pr_model.specs.Entries.{History};
@@ -11,7 +11,7 @@ ghost use Rattle.pr_gate.specs.Passes.{IsOf, IsFree, IsSamePass, number_of, seen
 ghost use Rattle.pr_session.specs.declared.session_end.SessionEnd.TheVariants.{SpentTicket, ReadFault, WriteFault};
 ghost use Rattle.pr_session.specs.Sessions.{IsSettled, lane_of, reply_of};
 ghost use Rattle.pr_session.specs.Sharing.{WillAgree};
-ghost use Rattle.pr_session.specs.Ends.{Since, Over, IsCaused, ComesOfEnd, end_at, end_after};
+ghost use Rattle.pr_session.specs.Ends.{Since, Over, IsCaused, ComesOfEnd, MakesLast, UnlessSpent, frames_by, frames_if, replies_in, end_at, end_after};
 
 use crate::session::Session;
 use crate::session_end::SessionEnd;
@@ -60,6 +60,15 @@ pub fn serve_turn<S: Source, K: Sink, M: Medium, D: Disk, R: Wait>(
         (K.faults sink.old) (K.faults sink.new)) }
     ensures ended { IfErr result (λ end. ComesOfEnd end (lane_of session.new)
         (S.rest source.new)) }
+    ensures frames { IfOk result (λ replied. replies_in (own_of pass.new)
+        ≡ frames_if replied + replies_in (own_of pass.old)) }
+    ensures last { IfErr result (λ end. MakesLast end (lane_of session.new)
+        (replies_in (own_of pass.old)) (replies_in (own_of pass.new))) }
+    ensures calm { IfOk result (λ _. (S.faults source.new ≡ S.faults source.old)
+        × (K.faults sink.new ≡ K.faults sink.old)) }
+    ensures left { IfErr result (λ end. UnlessSpent end (IsSettled session.new
+        × WillAgree M.Medium D.Disk (lane_of session.new).phase (ground_of pass.new)
+        (number_of pass.new) (seen_of pass.new))) }
     ensures goes_on { IfOk result (λ _. IsSettled session.new × (reply_of session.new ≡ [])
         × ((lane_of session.new).phase ≡ Dead → ⊥)) }
     ensures agrees { IfOk result (λ _. WillAgree M.Medium D.Disk (lane_of session.new).phase
@@ -99,6 +108,8 @@ fn receive<S: Source>(session: &mut Session, source: &mut S) -> Result<(), Sessi
         → IsCaused end (S.faults source.old) (S.faults source.new) sink sink_now) }
     ensures ended { IfErr result (λ end. ComesOfEnd end (lane_of session.new)
         (S.rest source.new)) }
+    ensures last { IfErr result (λ end. (n : ℕ) → MakesLast end (lane_of session.new) n n) }
+    ensures calm { IfOk result (λ _. S.faults source.new ≡ S.faults source.old) }
 {
     match session.take_from(source) {
         Ok(0) => Err(end_of(session)),
@@ -142,6 +153,11 @@ fn reply<K: Sink>(session: &mut Session, sink: &mut K) -> Result<bool, SessionEn
         → IsCaused end source source_now (K.faults sink.old) (K.faults sink.new)) }
     ensures ended { IfErr result (λ end. (rest : Option (List ℕ))
         → ComesOfEnd end (lane_of session.new) rest) }
+    ensures said { IfOk result (λ replied. frames_by (reply_of session.old)
+        ≡ frames_if replied) }
+    ensures last { IfErr result (λ end. (before now : ℕ) → now ≤ 1 + before
+        → MakesLast end (lane_of session.new) before now) }
+    ensures calm { IfOk result (λ _. K.faults sink.new ≡ K.faults sink.old) }
 {
     if session.reply().is_empty() {
         return Ok(false);

@@ -22,7 +22,7 @@ ghost use Rattle.pr_link.specs.Streams as streams;
 ghost use Rattle.pr_link.specs.Deframer.{stream_of, held_of, place_of};
 ghost use Rattle.pr_session.specs.Streams.{IsIntact};
 ghost use Rattle.pr_session.specs.Feeding.{fed, Takes};
-ghost use Rattle.pr_session.specs.States.{IsSettledIn, is_busy, phase_of, phase_in, living, rejection_at, rejection_in, asked_in};
+ghost use Rattle.pr_session.specs.States.{IsSettledIn, is_busy, moved_in, phase_of, phase_in, living, rejection_at, rejection_in, asked_in};
 ghost use Rattle.pr_session.specs.Jobs.{job_of, block_in, FitsStep};
 ghost use Rattle.pr_session.specs.Places.{data_in};
 ghost use Rattle.pr_session.specs.Asking.{next_by};
@@ -133,6 +133,16 @@ impl Session {
             State::In(nexus) | State::Busy(nexus, _) => Some(nexus),
             State::Fresh | State::Dead(_) => None,
             State::Asking(asked) => asked.nexus(),
+        }
+    }
+
+    /// The nexus whose task runs, and how many blocks of that are moved.
+    pub(crate) fn moved(&self) -> Option<(Nexus, u32)>
+        ensures { result ≡ moved_in self.now.state }
+    {
+        match self.state {
+            State::Busy(nexus, job) => Some((nexus, job.moved())),
+            State::Fresh | State::In(_) | State::Asking(_) | State::Dead(_) => None,
         }
     }
 

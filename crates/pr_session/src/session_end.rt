@@ -1,5 +1,8 @@
 //! How serving a connection ends.
 
+/// How many frames of one connection are replied to at the most.
+pub const FRAMES: u64 = 1 << 32;
+
 /// How serving a connection ended. A place is the number of the connection's bytes before a frame,
 /// modulo 2^64.
 #[derive(Clone, Copy, Debug, PartialEq, Eq)]
