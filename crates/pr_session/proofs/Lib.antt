@@ -16,4 +16,5 @@ mod Peers
 pub mod Opening
 pub mod Counting
 pub mod Closings
+pub mod Connections
 pub mod Holdings

@@ -1,6 +1,7 @@
 -- How far a connection was served, and how that ended (this project's own).
 use Rattle.std.specs.Prelude.{◌≡◌, ◌⊎◌, ℕ, ◌+◌, ◌<◌, ◌≤◌, ◌^◌, ◌==◌, if◌then◌else◌, Bool, true, false, List, [], ◌∷◌, ◌++◌, length, Option, Some, None}
-use Rattle.pr_grammar.specs.Frames.{Frame}
+use Rattle.pr_grammar.specs.Bodies.{login_reply}
+use Rattle.pr_grammar.specs.Frames.{Frame, frame, spelled}
 use Rattle.pr_model.specs.Entries as entries
 use Rattle.pr_model.specs.Entries.{Out, History}
 use Rattle.pr_model.specs.Lanes.{Dead, AwaitsFrame, Lane, Turn, Idle, Silent, Asks, turn, arrived, after_logout, rejected}
@@ -189,3 +190,20 @@ pub record Served (end : SessionEnd) (who : ℕ) (rest rest_now written written_
   pub within : IsWithin end last (replies_in asked)
   pub comes : ComesOfEnd end last rest_now
   pub published : own_now ≡ own ++ (asked ++ closing_at end who last)
+
+-- the reply with code 5 to a Login that wasn't read, from a target that has no memory for a session
+abbrev pub refusal : List ℕ
+refusal = spelled (frame 0x81 0 0 (login_reply 5))
+
+-- no memory: all else is as it was, but that a front of the refusal, maybe none of it, was sent
+pub record Refuses (written written_now : Option (List ℕ)) (own own_now : History) : Type 0 where
+  pub sent : List ℕ
+  pub lost : List ℕ
+  pub all : refusal ≡ sent ++ lost
+  pub put : Put written written_now sent
+  pub none : own_now ≡ own
+
+-- a connection was served, or there was no memory for it
+abbrev pub Answered : SessionEnd → ℕ → Option (List ℕ) → Option (List ℕ) → Option (List ℕ) → Option (List ℕ) → History → History → Type 0
+Answered NoMemory who rest rest_now written written_now own own_now = Refuses written written_now own own_now
+Answered end who rest rest_now written written_now own own_now = Served end who rest rest_now written written_now own own_now

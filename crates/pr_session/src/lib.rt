@@ -7,6 +7,7 @@
 mod act;
 mod acting;
 mod asked;
+mod connection;
 mod driving;
 mod held;
 mod job;
@@ -19,9 +20,10 @@ mod state;
 mod work;
 
 pub use act::{Act, Out, Want};
+pub use connection::serve_connection;
 pub use driving::{close, drive};
-pub use lane_peer::LanePeer;
 pub use held::serve_held;
+pub use lane_peer::LanePeer;
 pub use serving::serve_turn;
 pub use session::Session;
 pub use session_end::{FRAMES, SessionEnd};
