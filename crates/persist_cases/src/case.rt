@@ -7,7 +7,9 @@ pub(crate) struct Case {
     pub name: String,
     /// The words of the command, with a space between each two.
     pub words: String,
-    /// What the target says: frames without their lengths.
+    /// The commands that a target had before which answers by itself, where there is one.
+    pub before: Option<Vec<String>>,
+    /// What the target says where it doesn't: frames without their lengths.
     pub replies: Vec<Vec<u8>>,
     /// What it says behind them.
     pub rest: Vec<u8>,
@@ -27,6 +29,7 @@ impl Case {
         Ok(Case {
             name: String::from_str(alloc, name)?,
             words: String::new(alloc),
+            before: None,
             replies: Vec::new(alloc),
             rest: Vec::new(alloc),
             heard: None,

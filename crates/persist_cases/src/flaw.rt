@@ -10,8 +10,14 @@ pub(crate) enum Flaw {
     UnknownWord,
     #[error("no case has begun")]
     NoCase,
+    #[error("no target answers by itself")]
+    NoTarget,
     #[error("a frame is too long")]
     TooLong,
+    #[error("the target doesn't open")]
+    TargetShut,
+    #[error("a command before it ends with status {0}")]
+    StatusBefore(u8),
     #[error("it ends with status {0}")]
     OtherStatus(u8),
     #[error("something else is sent")]

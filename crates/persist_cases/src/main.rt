@@ -7,6 +7,7 @@ mod flaw;
 mod reading;
 mod running;
 mod sweeping;
+mod targets;
 
 use reading::read_cases;
 use std::process::ExitCode;

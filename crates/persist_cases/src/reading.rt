@@ -91,6 +91,11 @@ impl Case {
     /// Takes a line of what is done and of what comes of it.
     fn comes_to(&mut self, alloc: Global, verb: &str, text: &str) -> Result<(), Flaw> {
         match verb {
+            "target" if text == "fresh" => self.before = Some(Vec::new(alloc)),
+            "had" => match &mut self.before {
+                Some(before) => before.push(String::from_str(alloc, text)?)?,
+                None => return Err(Flaw::NoTarget),
+            },
             "runs" => self.words = String::from_str(alloc, text)?,
             "prints" => {
                 self.text.push_str(text)?;

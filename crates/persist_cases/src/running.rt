@@ -2,7 +2,7 @@
 
 use crate::case::Case;
 use crate::flaw::Flaw;
-use pr_io::{MemSink, MemWire, ScriptPeer};
+use pr_io::{MemSink, MemWire, Peer, ScriptPeer};
 use pr_persist::{explain, persist_main};
 use std::alloc::Global;
 
@@ -64,8 +64,18 @@ impl<'a> Trial<'a> {
             String::from_str(alloc, "x")?,
             ScriptPeer::new(said, RECEIVED),
         ))?;
-        let mut wire = MemWire::new(alloc, devices, failing.wire);
-        let mut sink = MemSink::in_pieces(alloc, PUT, failing.sink);
+        let wire = MemWire::new(alloc, devices, failing.wire);
+        self.run_over(alloc, wire, failing.sink)
+    }
+
+    /// Runs it over a wire, with a sink some of whose calls fail.
+    pub(crate) fn run_over<P: Peer + Drop>(
+        &self,
+        alloc: Global,
+        mut wire: MemWire<P>,
+        failing: Vec<u64>,
+    ) -> Result<Outcome, Flaw> {
+        let mut sink = MemSink::in_pieces(alloc, PUT, failing);
         let exit = persist_main(alloc, &self.words, &mut wire, &mut sink);
         Ok(Outcome {
             status: exit.status(),

@@ -6,6 +6,7 @@ ghost use Rattle.std.specs.String.{string_bytes};
 use crate::case::Case;
 use crate::flaw::Flaw;
 use crate::running::{Failing, Outcome, Trial};
+use crate::targets::run_behind;
 use std::alloc::Global;
 
 /// More calls than a run makes.
@@ -110,9 +111,13 @@ fn try_data(alloc: Global, trial: &Trial<'_>) -> Result<(), Flaw> {
     Ok(())
 }
 
-/// Runs a case, and where it is to end well also with each thing in turn that may go wrong.
+/// Runs a case, and where it is to end well before a target that says what it is told to, also with
+/// each thing in turn that may go wrong.
 pub(crate) fn try_case(alloc: Global, case: &Case) -> Result<(), Flaw> {
     let trial = Trial::of(alloc, case)?;
+    if let Some(before) = &case.before {
+        return judge(case, &run_behind(alloc, &trial, before)?);
+    }
     let outcome = trial.run(alloc, case.said(alloc)?, Failing::nothing(alloc))?;
     judge(case, &outcome)?;
     if case.status == 0 {
