@@ -1,5 +1,5 @@
 -- A target that was just opened has made no entry.
-use Rattle.std.proofs.Common.{◌≡◌, ℕ, Bool, true, [], ◌∙◌, subst}
+use Rattle.std.proofs.Common.{◌≡◌, Bool, true, [], ◌∙◌, subst}
 use Rattle.pr_model.specs.Worlds.{Blocks, opened}
 use Rattle.pr_model.specs.Histories.{AreBlocksOf}
 use Rattle.pr_io.specs.declared.outside.Medium as media
