@@ -1,21 +1,19 @@
 -- The Logout that nobody asked for, over a gate; and how serving has then ended.
-use Rattle.std.proofs.Common.{◌≡◌, inl, inr, ℕ, ◌+◌, ◌≤◌, ◌<◌, ◌^◌, Bool, true, List, [], ◌∷◌, ◌++◌, Option, Some, None, refl, sym, ap, ◌∙◌, subst, arith, append_assoc}
+use Rattle.std.proofs.Common.{◌≡◌, inl, inr, ℕ, ◌+◌, ◌<◌, ◌^◌, Bool, true, List, [], ◌∷◌, ◌++◌, Option, Some, None, refl, sym, ap, ◌∙◌, subst, arith, append_assoc}
 use Rattle.std.proofs.lemmas.List.{append-nil}
 use Rattle.pr_words.specs.declared.nexus.Nexus.{Nexus}
 use Rattle.pr_model.specs.Entries as entries
 use Rattle.pr_model.specs.Entries.{Entry, History, entry}
-use Rattle.pr_model.specs.Lanes.{Lane, turn}
-use Rattle.pr_model.specs.Runs.{Makes, closing}
+use Rattle.pr_model.specs.Lanes.{Lane}
+use Rattle.pr_model.specs.Runs.{closing}
 use Rattle.pr_model.specs.Sessions.{AreTurns, AsksFor, connection}
 use Rattle.pr_model.proofs.SessionLaws.{turns_join}
 use Rattle.pr_io.specs.declared.outside.Medium as media
 use Rattle.pr_io.specs.declared.outside.Disk as disks
 use Rattle.pr_core.specs.declared.target.Core.{Core}
-use Rattle.pr_core.specs.declared.ground.Ground.{Ground}
 use Rattle.pr_core.specs.View.{Extends, owner_of}
 use Rattle.pr_core.specs.Shared.{Stands, ground_in}
 use Rattle.pr_core.proofs.SharedLaws.{extends_stands}
-use Rattle.pr_session.specs.declared.session.Session.{Session}
 use Rattle.pr_session.specs.declared.session_end.SessionEnd.{SessionEnd}
 use Rattle.pr_session.specs.declared.session_end.SessionEnd.TheVariants.{Closed, Cut, Rejected, ReadFault, WriteFault, SpentFrames, SpentTicket, NoMemory}
 use Rattle.pr_session.specs.declared.session_end.TheConstants.{FRAMES}
@@ -23,7 +21,7 @@ use Rattle.pr_session.specs.declared.state.State.{State}
 use Rattle.pr_session.specs.declared.state.State.TheVariants as states
 use Rattle.pr_session.specs.Coming.{Agrees}
 use Rattle.pr_session.specs.States.{IsSettledIn, nexus_at, phase_of}
-use Rattle.pr_session.specs.Ends.{Row, Over, Served, EndsBy, IsWithin, ComesOfEnd, UnlessSpent, MakesLast, Since, closing_at, replies_in, frames_if}
+use Rattle.pr_session.specs.Ends.{Row, Over, Served, EndsBy, IsWithin, ComesOfEnd, MakesLast, closing_at, replies_in, frames_if}
 use Rattle.pr_session.specs.Ends.{IsLogout, IsReject}
 use Rattle.pr_model.specs.Lanes.{Turn}
 use Rattle.pr_session.proofs.Counting.{replies-append}

@@ -2,10 +2,10 @@
 use Rattle.std.proofs.Common.{◌≡◌, ℕ, ◌+◌, ◌≤◌, Bool, true, false, cond, eqb, List, [], ◌∷◌, ◌++◌, Result, Ok, Err, IfOk, refl, sym, ap, ◌∙◌, arith}
 use Rattle.pr_words.specs.declared.nexus.Nexus.{Nexus}
 use Rattle.pr_grammar.specs.Bodies.{login_nexus, login_version, command_cdb, command_data}
-use Rattle.pr_grammar.specs.Frames.{Frame, Front, Lacking, Broken, Whole, front, spelled}
+use Rattle.pr_grammar.specs.Frames.{Frame, Front, Lacking, Broken, Whole, front}
 use Rattle.pr_words.specs.declared.nexus.Side.TheVariants.{Target}
-use Rattle.pr_model.specs.Entries.{Act, Login, Command, Logout, Step, Out, Login_code, Ended, Started, Wrote, Read, Done, Aborted, Fault, Left, Restored, History}
-use Rattle.pr_model.specs.Lanes.{Phase, Fresh, In, Busy, Dead, Job, Lane, Turn, Idle, Silent, Asks, Turned, turn, turn_at, turn_by, carried, after_login, after_command, after_step, after_logout, rejected, place_after}
+use Rattle.pr_model.specs.Entries.{Act, Login, Command, Logout, Out, Login_code, Ended, Started, Wrote, Read, Done, Aborted, Fault, Left, Restored, History}
+use Rattle.pr_model.specs.Lanes.{Phase, Fresh, In, Busy, Dead, Job, Lane, Turn, Idle, Silent, Asks, Turned, turn, turn_at, turn_by, after_login, after_command, after_step, after_logout, rejected, place_after}
 use Rattle.pr_model.specs.Runs.{Makes}
 use Rattle.pr_session.specs.Ends.{replies_by, replies_in, frames_by, frames_if}
 use Rattle.pr_session.specs.Sharing.{Shares}
