@@ -13,8 +13,9 @@ mod Reaching
 mod LaterBytes
 mod Shrinking
 mod Peers
-pub mod Opening
+pub mod Opened
 pub mod Counting
 pub mod Closings
 pub mod Connections
 pub mod Holdings
+pub mod Sends

@@ -1,4 +1,4 @@
-use Rattle.pr_session.proofs.Opening.{just_opened}
+use Rattle.pr_session.proofs.Opened.{just_opened}
 use Rattle.persist_cases.proofs.targets.fresh_target.Goals as goal
 
 -- a target that was just opened has made no entry

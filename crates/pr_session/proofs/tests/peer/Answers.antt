@@ -1,4 +1,4 @@
-use Rattle.pr_session.proofs.Opening.{just_opened}
+use Rattle.pr_session.proofs.Opened.{just_opened}
 use Rattle.pr_session.proofs.tests.peer.Goals as goal
 
 pub new-requires-in-Ok-clause-core : goal.new-requires-in-Ok-clause-core
