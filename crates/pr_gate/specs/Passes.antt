@@ -5,6 +5,7 @@ use Rattle.pr_gate.specs.declared.view.View.{View}
 use Rattle.pr_gate.specs.declared.pass.Gate.{Gate}
 use Rattle.pr_gate.specs.declared.pass.Pass.{Pass}
 use Rattle.pr_gate.specs.declared.pass.Note.{Note}
+use Rattle.pr_gate.specs.declared.pass.Retired.{Retired}
 use Rattle.pr_gate.specs.Entries.{own}
 use Rattle.pr_gate.specs.Seats.{IsSameSeat, IsIdle, IsServed}
 
@@ -52,6 +53,22 @@ module _ {T E G : Type 0} where
   -- the ground of the value that the note's gate was made with (this project's own)
   abbrev pub note_ground_of : {g : _} → Note T E G g → Option G
   note_ground_of note = note.seat.me.0.ground
+
+  -- the retired pass came from this gate (this project's own)
+  abbrev pub IsRetiredOf : {g : _} → Gate T E G → Retired T E G g → Type 0
+  IsRetiredOf gate retired = retired.seat.table_id ≡ gate.table.shared.table_id
+
+  -- the number by which entries name it (this project's own)
+  abbrev pub retired_number : {g : _} → Retired T E G g → Option ℕ
+  retired_number retired = retired.seat.me.0.number
+
+  -- the entries that it had seen (this project's own)
+  abbrev pub retired_seen : {g : _} → Retired T E G g → List E
+  retired_seen retired = retired.seat.me.0.seen
+
+  -- the entries that it made (this project's own)
+  abbrev pub retired_own : {g : _} → Retired T E G g → List E
+  retired_own retired = retired.seat.me.0.mine
 
   -- q is a later state of the pass p, of the same gate, number, ground and right to make passes (this project's own)
   abbrev pub IsSamePass : {g : _} → Pass T E G g → Pass T E G g → Type 0

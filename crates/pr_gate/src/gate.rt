@@ -2,12 +2,12 @@
 ghost use Rattle.std.specs.Prelude.{◌≡◌, ◌≢◌, ℕ, ◌≤◌, ◌+◌, ◌<◌, ◌-◌, ◌^◌, [], ◌∷◌, ◌++◌, Some, None, IfOk, IfErr, IsSome, length};
 ghost use Rattle.std.specs.Borrow.{sem};
 ghost use mathlib.Core.List.{IsPrefix};
-ghost use Rattle.pr_gate.specs.Entries.{longer};
+ghost use Rattle.pr_gate.specs.Entries.{longer, own};
 ghost use Rattle.pr_gate.specs.Lending.{LendsValue};
-ghost use Rattle.pr_gate.specs.Passes.{IsOf, IsNoteOf, number_of, seen_of, own_of, ground_of, spare_of, IsFree, IsInside, noted_of, note_ground_of, IsSamePass, IsUnchanged, HasMade, IsLeft};
+ghost use Rattle.pr_gate.specs.Passes.{IsOf, IsNoteOf, number_of, seen_of, own_of, ground_of, spare_of, IsFree, IsInside, noted_of, note_ground_of, IsRetiredOf, retired_number, retired_seen, retired_own, IsSamePass, IsUnchanged, HasMade, IsLeft};
 
 use crate::latch::Latch;
-use crate::pass::{Gate, Note, Pass, Spent, Turn, Unreturned};
+use crate::pass::{Gate, Note, Pass, Retired, Spent, Turn, Unreturned};
 use crate::stands::Stands;
 use crate::steps::{TICKET_LIMIT, another, draw, join, note_of, permit, publish, take_out, wait};
 use crate::view::Held;
@@ -40,6 +40,24 @@ impl<T: Stands> Pass<T> {
         ensures { result ≡ length (seen_of self.now) }
     {
         self.count
+    }
+}
+
+impl<T: Stands> Pass<T> {
+    /// Gives the pass up, which has no turn. `Gate::settle` tells later what it made.
+    pub fn retire(self) -> Retired<T>
+        requires free { IsFree self }
+        ensures gate { result.seat.table_id ≡ self.seat.table_id }
+        ensures number { retired_number result ≡ Some (number_of self) }
+        ensures lists { (retired_seen result ≡ seen_of self) × (retired_own result ≡ own_of self) }
+    {
+        let Pass {
+            seat,
+            number: _,
+            next: _,
+            count: _,
+        } = self;
+        Retired { seat }
     }
 }
 
@@ -181,6 +199,21 @@ impl<T: Stands> Gate<T> {
         if pass.count < count {
             pass.count = count;
         }
+    }
+
+    /// Lets it be known what a retired pass made: of all that `pass` has seen by now, which has what
+    /// the retired one had seen, just its own entries name its number.
+    pub fn settle(&self, retired: Retired<T>, pass: &mut Pass<T>)
+        requires gate { IsOf self.now pass.old × IsRetiredOf self.now retired }
+        requires seen { IsPrefix (retired_seen retired) (seen_of pass.old) }
+        ensures same { IsUnchanged pass.old pass.new }
+        ensures own { (n : ℕ) → retired_number retired ≡ Some n
+            → own T.number n (seen_of pass.new) ≡ retired_own retired }
+    {
+        let Retired { mut seat } = retired;
+        let note = note_of(&self.table.shared, &mut pass.seat);
+        join(&self.table.shared, &mut seat, note);
+        drop(seat);
     }
 
     /// Ends the gate and gives the value back, or says that a turn is out, with which the value is

@@ -24,5 +24,5 @@ mod steps;
 mod tests;
 mod view;
 
-pub use pass::{Gate, Note, Pass, Spent, Turn, Unreturned};
+pub use pass::{Gate, Note, Pass, Retired, Spent, Turn, Unreturned};
 pub use stands::Stands;

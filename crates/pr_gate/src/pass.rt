@@ -57,6 +57,14 @@ pub struct Note<T: Stands> {
     ghost anonymous: { (seat.me.0.number ≡ None) × (seat.me.0.stage ≡ Idle) × (seat.me.1 ≡ []) },
 }
 
+/// What is left of a pass whose owner takes no more turns. It takes no bytes, so any number of them
+/// may be kept until it is told what they made.
+#[derive(Drop)]
+pub struct Retired<T: Stands> {
+    pub(crate) seat: Place<T>,
+    ghost idle: { (seat.me.0.stage ≡ Idle) × (seat.me.1 ≡ []) },
+}
+
 /// The value, for as long as the turn lasts.
 ///
 /// A turn has no `Drop`: it can only go back by `Gate::leave`.
