@@ -33,4 +33,8 @@ pub use sharing::drive_shared;
 pub use state::Rejection;
 
 #[cfg(test)]
+mod samples;
+#[cfg(test)]
+mod serve_tests;
+#[cfg(test)]
 mod tests;

@@ -1,42 +1,11 @@
-ghost use Rattle.std.specs.Prelude.{◌≡◌, ◌≤◌, IfOk, length};
-ghost use Rattle.pr_io.specs.Blocks.{disk_size};
+ghost use Rattle.std.specs.Prelude.{◌≤◌, length};
 
 use super::*;
+use crate::samples::{ACCEPTED, GOOD, LEFT, LOGIN, LOGOUT, POWERED, READY, fresh_image};
 use pr_core::Core;
-use pr_io::{DISK, FRESH_HEAD, Peer, SureDisk, SureMedium};
+use pr_io::{Peer, SureDisk, SureMedium};
 use std::alloc::Global;
 use std::test::*;
-
-/// A Login of name 11h at port 1, with tag 1.
-const LOGIN: &[u8] = b"\0\0\0\x14\x01\0\0\0\0\0\0\x01\x01\0\0\x01\0\0\0\0\0\0\0\x11";
-
-/// Its reply where it is accepted.
-const ACCEPTED: &[u8] = b"\0\0\0\x0C\x81\0\0\0\0\0\0\x01\0\0\0\0";
-
-/// A TEST UNIT READY with tag 2.
-const READY: &[u8] = b"\0\0\0\x1C\x02\0\0\0\0\0\0\x02\x06\0\0\0\0\0\0\0\0\0\0\0\0\0\0\0\0\0\0\0";
-
-/// Its reply after a power-up: CHECK CONDITION with 6/29/00.
-const POWERED: &[u8] = b"\0\0\0\x1E\x82\0\0\0\0\0\0\x02\x02\x12\0\0\
-    \x70\0\x06\0\0\0\0\x0A\0\0\0\0\x29\0\0\0\0\0";
-
-/// And its reply then: GOOD.
-const GOOD: &[u8] = b"\0\0\0\x0C\x82\0\0\0\0\0\0\x02\0\0\0\0";
-
-/// A Logout with tag 9.
-const LOGOUT: &[u8] = b"\0\0\0\x08\x03\0\0\0\0\0\0\x09";
-
-/// Its reply.
-const LEFT: &[u8] = b"\0\0\0\x08\x83\0\0\0\0\0\0\x09";
-
-/// A disk on which nothing was saved yet.
-fn fresh_image(alloc: Global) -> Result<Vec<u8>, Fail>
-    ensures { IfOk result (λ v. length v.items ≡ disk_size) }
-{
-    let mut image = FRESH_HEAD.to_vec(alloc)?;
-    image.resize(DISK, 0)?;
-    Ok(image)
-}
 
 /// A peer over a fresh target of one block.
 fn peer(alloc: Global) -> Result<LanePeer<SureMedium, SureDisk>, Fail> {
