@@ -33,6 +33,12 @@ pub use sharing::drive_shared;
 pub use state::Rejection;
 
 #[cfg(test)]
+mod crowd_tests;
+#[cfg(test)]
+mod preempt_tests;
+#[cfg(test)]
+mod requests;
+#[cfg(test)]
 mod samples;
 #[cfg(test)]
 mod serve_tests;
