@@ -1,0 +1,43 @@
+-- A run of a target that was opened.
+use Rattle.std.proofs.Common.{◌≡◌, ℕ, ◌+◌, ◌^◌, List, [], length, ◌∙◌, subst, arith, Some}
+use Rattle.pr_io.specs.Told.{ToldStreams, ToldSink}
+use Rattle.pr_io.specs.declared.outside.Medium as media
+use Rattle.pr_model.specs.Entries.{Entry, History}
+use Rattle.pr_gate.specs.Entries.{NamesBelow, own}
+use Rattle.pr_gate.specs.declared.pass.Pass.{Pass}
+use Rattle.pr_gate.specs.Passes.{number_of, seen_of, own_of, ground_of, spare_of}
+use Rattle.pr_core.specs.declared.ground.Ground.{Ground}
+use Rattle.pr_serve.specs.declared.exit.ServeExit.{ServeExit}
+use Rattle.pr_serve.specs.declared.exit.ServeExit.TheVariants.{Done, DoorFault, OpenFault, WriteFault, NoMemory, Spent}
+use Rattle.pr_serve.specs.Connections.{IsLegalPass}
+use Rattle.pr_serve.specs.Accepting.{ToldDoor, Serves, EndsSo}
+use Rattle.pr_serve.specs.Opened.{Served, Ran}
+
+ran-over : {M : Type 0} (gm : media.Ghosts M) (exit : ServeExit) (many blocks : ℕ) (a b : ToldDoor) (f f' : ℕ) (k k' : ToldSink) (cs : List ToldStreams) (h : History)
+    → Served gm blocks a b cs h → EndsSo exit many (length cs) f f' k k' (length h) → Ran gm exit many blocks a b f f' k k'
+ran-over gm Done many blocks a b f f' k k' cs h s e = (cs, h, s, e)
+ran-over gm DoorFault many blocks a b f f' k k' cs h s e = (cs, h, s, e)
+ran-over gm (OpenFault fault) many blocks a b f f' k k' cs h s e = absurd e
+ran-over gm WriteFault many blocks a b f f' k k' cs h s e = (cs, h, s, e)
+ran-over gm NoMemory many blocks a b f f' k k' cs h s e = (cs, h, s, e)
+ran-over gm (Spent ticket) many blocks a b f f' k k' cs h s e = (cs, h, s, e)
+
+-- from the first pass of a gate on, which had seen nothing
+pub ran-opened : {M T : Type 0} {g : _} (gm : media.Ghosts M) (exit : ServeExit) (many blocks : ℕ) (a b : ToldDoor) (f f' : ℕ) (k k' : ToldSink) (p q : Pass T Entry Ground g) (cs : List ToldStreams) (ground : Ground)
+    → ground_of p ≡ Some ground → ground.blocks ≡ blocks → own_of p ≡ [] → number_of p ≡ 0 → spare_of p ≡ 2 ^ 62
+    → Serves a b p q cs → IsLegalPass gm q
+    → NamesBelow (λ (e : Entry). e.who) q.next (seen_of q) → own (λ (e : Entry). e.who) (number_of q) (seen_of q) ≡ own_of q → q.next + spare_of q ≡ 2 ^ 62 + 1
+    → EndsSo exit many (length cs) f f' k k' (length (seen_of q)) → Ran gm exit many blocks a b f f' k k'
+ran-opened gm exit many blocks a b f f' k k' p q cs ground at over none first spare s legal names owned next e =
+    let made = s.goes.spare in
+    ran-over gm exit many blocks a b f f' k k' cs (seen_of q)
+    (record {
+      ground = ground;
+      over = over;
+      legal = legal ground (s.goes.of_one.1 ∙ at);
+      took = s.took;
+      served = s.served 1 (omega (arith, spare));
+      numbers = subst (λ n. NamesBelow (λ (x : Entry). x.who) n (seen_of q)) (omega (arith, next, made, spare)) names;
+      none = subst (λ n. own (λ (x : Entry). x.who) n (seen_of q) ≡ []) (s.goes.number ∙ first) (owned ∙ (s.goes.own ∙ none));
+    })
+    e

@@ -1,0 +1,25 @@
+use Rattle.std.proofs.Common.{rules, ◌++◌, ◌∷◌, [], arith, length-append}
+use Rattle.pr_serve.proofs.Acceptings.{accepts-more, cause-since}
+use Rattle.pr_serve.proofs.accepting.accept_all.Goals as goal
+
+pub returns-in-Err-clause-took : goal.returns-in-Err-clause-took
+returns-in-Err-clause-took g c =
+    let i = c.loop-taken.invariant.4 in (
+      i.0 ++ [],
+      search rules,
+      accepts-more g.A.In.Source g.A.Out.Sink _ _ _ _ _ _ _ _ _ _ _ i.2 c.in-Err.ensures.none,
+    )
+
+pub returns-in-Err-clause-cause : goal.returns-in-Err-clause-cause
+returns-in-Err-clause-cause g c = cause-since _ _ _ _ c.loop-taken.invariant.3 c.in-Err.ensures.cause
+
+pub loop-taken-preserved : goal.loop-taken-preserved
+loop-taken-preserved g c =
+    let i = c.loop-taken.invariant.4 in let took = c.in-Ok.ensures.took in let n = i.1 in
+    let before = c.loop-taken.invariant.3 in let later = c.in-Ok.ensures.later in (
+      search rules,
+      c.in-Ok.ensures.legal,
+      search rules,
+      omega arith,
+      (i.0 ++ took.0 ∷ [], omega (arith, length-append i.0 (took.0 ∷ [])), accepts-more g.A.In.Source g.A.Out.Sink _ _ _ _ _ _ _ _ _ _ _ i.2 took.1),
+    )

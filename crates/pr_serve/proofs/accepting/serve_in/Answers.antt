@@ -1,0 +1,38 @@
+use Rattle.std.proofs.Common.{ℕ, ◌+◌, ◌-◌, ◌^◌, [], ◌++◌, arith}
+use Rattle.pr_gate.specs.Passes.{spare_of}
+use Rattle.pr_serve.proofs.Crowding.{stands-new, goes-same, legal-same}
+use Rattle.pr_serve.proofs.Acceptings.{serves-all, on-all}
+use Rattle.pr_serve.proofs.accepting.serve_in.Goals as goal
+
+pub take_in_all-requires-clause-stands : goal.take_in_all-requires-clause-stands
+take_in_all-requires-clause-stands g c =
+    let took = c.accept_all-taken.ensures.took in let few = c.requires.few in
+    let first : ℕ = 2 ^ 62 + 1 - spare_of c.args.main in (
+      first,
+      [] ++ took.0,
+      took.2.stands first [] (omega arith) (stands-new g.A.In.Source g.A.Out.Sink first c.args.main c.args.sessions c.requires.none.0 c.requires.none.1),
+    )
+
+pub settle-requires-clause-stands : goal.settle-requires-clause-stands
+settle-requires-clause-stands g c =
+    let took = c.accept_all-taken.ensures.took in let few = c.requires.few in
+    let first : ℕ = 2 ^ 62 + 1 - spare_of c.args.main in (
+      first,
+      [] ++ took.0,
+      c.take_in_all.ensures.takes.stands first ([] ++ took.0)
+          (took.2.stands first [] (omega arith) (stands-new g.A.In.Source g.A.Out.Sink first c.args.main c.args.sessions c.requires.none.0 c.requires.none.1)),
+    )
+
+pub returns-clause-legal : goal.returns-clause-legal
+returns-clause-legal g c = legal-same g.M.Medium c.take_in_all.new.main c.settle.new.main c.settle.ensures.same c.take_in_all.ensures.legal
+
+pub returns-clause-serves : goal.returns-clause-serves
+returns-clause-serves g c =
+    let took = c.accept_all-taken.ensures.took in (
+      took.0,
+      on-all _ _ _ c.unless_spent-stopped.ensures.all took.1,
+      serves-all g.A.In.Source g.A.Out.Sink _ _ took.0 c.args.main c.accept_all-taken.new.main c.take_in_all.new.main c.settle.new.main c.args.sessions c.accept_all-taken.new.sessions c.take_in_all.new.sessions
+          took.2 c.take_in_all.ensures.takes (goes-same c.take_in_all.new.main c.settle.new.main c.settle.ensures.same)
+          (λ first. stands-new g.A.In.Source g.A.Out.Sink first c.args.main c.args.sessions c.requires.none.0 c.requires.none.1)
+          c.settle.ensures.served,
+    )

@@ -1,0 +1,9 @@
+pub mod Accepting
+pub mod Connections
+pub mod Crowds
+pub mod Opened
+pub mod Standing
+pub mod Statuses
+pub mod Turns
+pub mod Views
+pub mod Words

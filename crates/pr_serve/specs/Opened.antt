@@ -1,0 +1,28 @@
+-- What a run of a target that serves did, from its opening on (this project's own).
+use Rattle.std.specs.Prelude.{◌≡◌, ℕ, ◌+◌, List, [], length}
+use Rattle.pr_io.specs.Told.{ToldStreams, ToldSink}
+use Rattle.pr_io.specs.declared.outside.Medium as media
+use Rattle.pr_model.specs.Entries.{Entry, History}
+use Rattle.pr_gate.specs.Entries.{NamesBelow}
+use Rattle.pr_core.specs.declared.ground.Ground.{Ground}
+use Rattle.pr_core.specs.Shared.{IsLegalOn}
+use Rattle.pr_serve.specs.declared.exit.ServeExit.{ServeExit}
+use Rattle.pr_serve.specs.declared.exit.ServeExit.TheVariants.{OpenFault}
+use Rattle.pr_serve.specs.Connections.{AreServed, entries_of}
+use Rattle.pr_serve.specs.Accepting.{ToldDoor, Took, EndsSo}
+
+-- a target over a medium of so many blocks was opened, and served just these connections: its one history is legal from its opening, and the entries of each number from 1 on are just those that the connection of that number asked for
+pub record Served {M : Type 0} (gm : media.Ghosts M) (blocks : ℕ) (before after : ToldDoor) (cs : List ToldStreams) (h : History) : Type 0 where
+  pub ground : Ground
+  pub over : ground.blocks ≡ blocks
+  pub legal : IsLegalOn gm ground h
+  pub took : Took before after cs
+  pub served : AreServed 1 cs h
+  pub numbers : NamesBelow (λ (e : Entry). e.who) (1 + length cs) h
+  pub none : entries_of 0 h ≡ []
+
+-- a run ended so, by what door and sink tell before and afterwards
+abbrev pub Ran : {M : Type 0} → media.Ghosts M → ServeExit → ℕ → ℕ → ToldDoor → ToldDoor → ℕ → ℕ → ToldSink → ToldSink → Type 0
+Ran gm (OpenFault fault) many blocks before after faults faults_now sink sink_now = (after ≡ before) × (sink_now ≡ sink)
+Ran gm exit many blocks before after faults faults_now sink sink_now =
+    (cs : List ToldStreams) × (h : History) × Served gm blocks before after cs h × EndsSo exit many (length cs) faults faults_now sink sink_now (length h)
