@@ -3,6 +3,7 @@
 
 mod line;
 mod media;
+mod serve;
 
 use line::{command_line, cut};
 use media::{fresh_image, zero_blocks};
@@ -10,19 +11,22 @@ use pr_fence::{explain as explain_fence, fence_main};
 use pr_io::{StdinSource, StdoutSink, SureDisk, SureMedium, TcpWire};
 use pr_persist::{explain, persist_main};
 use pr_tool::{Exit, replay_main, show_main};
+use serve::serve_files;
 use std::alloc::AllocError;
 use std::fmt::Display;
 use std::io::ErrorKind;
 use std::process::ExitCode;
+use std::sync::Wait;
+use std::thread::Threads;
 
 fn main(rt: HostRuntime) -> ExitCode {
-    ExitCode::from(run(&rt))
+    ExitCode::from(run(&rt, &rt))
 }
 
 /// Runs the command that the words of the command line make, and gives its status.
-fn run(rt: &HostRuntime) -> u8 {
+fn run<R: Threads + Wait + Sync>(rt: &HostRuntime, threads: &R) -> u8 {
     match command_line(rt) {
-        Ok(line) => match command(rt, line.as_str()) {
+        Ok(line) => match command(rt, threads, line.as_str()) {
             Ok(status) => status,
             Err(_) => ended(rt, Exit::NoMemory),
         },
@@ -32,12 +36,17 @@ fn run(rt: &HostRuntime) -> u8 {
 }
 
 /// Runs the command of these words, the first of which is the program's name.
-fn command(rt: &HostRuntime, line: &str) -> Result<u8, AllocError> {
+fn command<R: Threads + Wait + Sync>(
+    rt: &HostRuntime,
+    threads: &R,
+    line: &str,
+) -> Result<u8, AllocError> {
     let words = cut(rt.alloc(), line)?;
     match &words[1..] {
         ["show"] => Ok(ended(rt, show(rt)?)),
         words @ ["persist", ..] => Ok(persist(rt, words)),
         words @ ["fence", ..] => Ok(fence(rt, words)),
+        words @ ["serve", ..] => Ok(target(rt, threads, words)),
         words => Ok(ended(rt, replay(rt, words)?)),
     }
 }
@@ -96,4 +105,20 @@ fn fence(rt: &HostRuntime, words: &[&str]) -> u8 {
         complain(rt, &line);
     }
     exit.status()
+}
+
+/// Serves a target over TCP, and tells the user of a fault.
+fn target<R: Threads + Wait + Sync>(rt: &HostRuntime, threads: &R, words: &[&str]) -> u8 {
+    match serve_files(rt, threads, words) {
+        Ok(exit) => {
+            if let Some(fault) = exit.fault() {
+                complain(rt, &fault);
+            }
+            exit.status()
+        }
+        Err(refusal) => {
+            complain(rt, &refusal);
+            refusal.status()
+        }
+    }
 }
