@@ -20,3 +20,10 @@ pub use exit::{ServeExit, ServeFault};
 pub use opened::serve_main;
 pub use serving::serve_gate;
 pub use words::{ServeWords, serve_words};
+
+#[cfg(test)]
+mod samples;
+#[cfg(test)]
+mod side_by_side_tests;
+#[cfg(test)]
+mod tests;
