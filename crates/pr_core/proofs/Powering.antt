@@ -1,13 +1,13 @@
 -- Power that is lost and comes back.
-use Rattle.std.proofs.Common.{◌≡◌, ◌⊎◌, inl, inr, true, false, Bool, List, [], ◌∷◌, Option, Some, None, is_some, refl, sym, ap, ◌∙◌, subst, ℕ, arith}
-use Rattle.pr_io.specs.Images.{Image, Story, Stays}
+use Rattle.std.proofs.Common.{◌≡◌, ◌⊎◌, inl, inr, true, false, Bool, [], ◌∷◌, Option, Some, None, is_some, refl, sym, ◌∙◌, subst, arith}
+use Rattle.pr_io.specs.Images.{Image, Story}
 use Rattle.pr_io.specs.Spans.{Goes}
 use Rattle.pr_io.specs.declared.outside.Medium as media
 use Rattle.pr_io.specs.declared.outside.Disk as disks
-use Rattle.pr_grammar.specs.Files.{Restoration, file_restores, file_head, file_layout}
+use Rattle.pr_grammar.specs.Files.{Restoration, file_head, file_layout}
 use Rattle.pr_model.specs.Keeping.{Kept, IsIn}
 use Rattle.pr_model.specs.Worlds.{Blocks, World, opened}
-use Rattle.pr_model.specs.Entries.{History, power_up}
+use Rattle.pr_model.specs.Entries.{power_up}
 use Rattle.pr_model.specs.Saving.{restorable}
 use Rattle.pr_model.specs.Histories.{AreBlocksOf}
 use Rattle.pr_model.specs.Stamps.{IsOneOf, Restores}
@@ -19,10 +19,9 @@ use Rattle.pr_aptpl.specs.Doubts.{IsKeepable}
 use Rattle.pr_aptpl.specs.Keepers as keepers
 use Rattle.pr_aptpl.specs.Opens.{FailsAt}
 use Rattle.pr_core.specs.declared.target.Core.{Core}
-use Rattle.pr_core.specs.declared.state.State.{State}
 use Rattle.pr_core.specs.Saves.{Holds, Leads}
 use Rattle.pr_core.specs.States.{Depicts}
-use Rattle.pr_core.specs.View.{StandsFor, IsUntold, Extends, medium_of, disk_of, story_of, opening_of}
+use Rattle.pr_core.specs.View.{StandsFor, IsUntold, medium_of, story_of}
 use Rattle.pr_core.proofs.Entering.{Makes}
 use Rattle.pr_core.proofs.Settled.{holds_restores}
 

@@ -1,9 +1,12 @@
 -- For which histories a target stands that threads share (this project's own). What its medium held when it was opened isn't known.
 use Rattle.std.specs.Prelude.{◌≡◌, ℕ, Bool, true, false, None, IsSome}
 use Rattle.std.specs.List.{AllByRecursion}
+use Rattle.pr_model.specs.Limits.{LIMIT}
 use Rattle.pr_model.specs.Worlds.{Blocks, World, opened}
+use Rattle.pr_model.specs.Registrants.{IsWellFormed}
 use Rattle.pr_model.specs.Entries.{Act, Login, Command, Step, Logout, Power, Entry, History}
 use Rattle.pr_model.specs.Histories.{after, faults_in, failures_in, IsLegalFrom}
+use Rattle.pr_model.specs.Fencing.{IsFenced}
 use Rattle.pr_io.specs.declared.outside.Medium as media
 use Rattle.pr_io.specs.declared.outside.Disk as disks
 use Rattle.pr_core.specs.declared.ground.Ground.{Ground}
@@ -44,12 +47,29 @@ IsPowered Power = ⊥
 abbrev pub ArePowered : History → Type 0
 ArePowered h = AllByRecursion (λ (e : Entry). IsPowered e.act) h
 
+-- media, and disks, of this kind never fail
+abbrev pub MediaNeverFail : {M : Type 0} → media.Ghosts M → Type 0
+MediaNeverFail {M} gm = (medium : M) → gm.faults medium ≡ 0
+
+abbrev pub DisksNeverFail : {D : Type 0} → disks.Ghosts D → Type 0
+DisksNeverFail {D} gd = (disk : D) → gd.faults disk ≡ 0
+
+-- what a target that was opened with this may have done since: the registrants with which it was opened are well formed, and the history is legal and fenced, without a loss of power. It has no fault of a medium that never fails, and no save that failed on a disk that never does
+pub record IsRightOn {M D : Type 0} (gm : media.Ghosts M) (gd : disks.Ghosts D) (g : Ground) (h : History) : Type 0 where
+  pub formed : OnOpening gm g (λ w. IsWellFormed LIMIT w.standing)
+  pub legal : IsLegalOn gm g h
+  pub fenced : OnOpening gm g (λ w. IsFenced w h)
+  pub powered : ArePowered h
+  pub faults : MediaNeverFail gm → faults_in h ≡ 0
+  pub failures : DisksNeverFail gd → failures_in h ≡ 0
+
 -- with what the core was opened
 abbrev pub ground_in : {M D : Type 0} {gm : media.Ghosts M} {gd : disks.Ghosts D} → Core M D gm gd → Ground
 ground_in c = record { kept = opening_of c; blocks = blocks_of c }
 
--- the history is legal from the opening, without a loss of power, and the core stands for the world after it; since some count its medium has failed once for each fault in it, and since some count its disk once for each save that failed
+-- the history is legal from a well formed opening, without a loss of power, and the core stands for the world after it; since some count its medium has failed once for each fault in it, and since some count its disk once for each save that failed
 pub record Stands {M D : Type 0} {gm : media.Ghosts M} {gd : disks.Ghosts D} (c : Core M D gm gd) (h : History) : Type 0 where
+  pub formed : OnOpening gm (ground_in c) (λ w. IsWellFormed LIMIT w.standing)
   pub legal : IsLegalOn gm (ground_in c) h
   pub stands : OnOpening gm (ground_in c) (λ w. StandsFor c (after w h))
   pub powered : ArePowered h

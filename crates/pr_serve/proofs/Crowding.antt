@@ -6,6 +6,7 @@ use Rattle.pr_io.specs.Told.{ToldStreams}
 use Rattle.pr_io.specs.declared.outside.Source as sources
 use Rattle.pr_io.specs.declared.outside.Sink as sinks
 use Rattle.pr_io.specs.declared.outside.Medium as media
+use Rattle.pr_io.specs.declared.outside.Disk as disks
 use Rattle.pr_model.specs.Entries.{Entry, History}
 use Rattle.pr_gate.specs.declared.pass.Pass.{Pass}
 use Rattle.pr_gate.specs.declared.stands.Stands as gates
@@ -19,8 +20,8 @@ use Rattle.pr_serve.specs.declared.connection.Begun.{Begun}
 use Rattle.pr_serve.specs.declared.sessions.Sessions.{Sessions}
 use mathlib.Core.List.{IsPrefix}
 use Rattle.pr_gate.specs.declared.view.Stage.TheVariants.{Idle}
-use Rattle.pr_core.specs.Shared.{IsLegalOn}
-use Rattle.pr_serve.specs.Connections.{IsLegalPass, IsServed, ServedBy, AreOfOne, Goes, AreServed, entries_of}
+use Rattle.pr_core.specs.Shared.{IsRightOn}
+use Rattle.pr_serve.specs.Connections.{IsRightPass, IsServed, ServedBy, AreOfOne, Goes, AreServed, entries_of}
 use Rattle.pr_serve.specs.Standing.{Has, IsPast, IsSettled, HasServed, Serves, Covers, Stand}
 use Rattle.pr_serve.specs.Crowds.{pass_in, told_in, Stands, Starts, Retires, IsAsBefore, TakesIn, used_of, most_of}
 use Rattle.pr_serve.specs.declared.sessions.Running.{Running}
@@ -51,12 +52,12 @@ module _ {T : Type 0} {g : _} where
     free = λ f. subst (λ me. (me.0.stage ≡ Idle) × (me.1 ≡ []) × IsSome me.0.number) (sym u.1) f;
   }
 
-  pub legal-same : {M : Type 0} (gm : media.Ghosts M) (p q : Pass T Entry Ground g) → IsUnchanged p q → IsLegalPass gm p → IsLegalPass gm q
-  legal-same gm p q u legal ground is = subst (λ h. IsLegalOn gm ground h) (sym (ap (λ me. me.0.seen) u.1)) (legal ground (sym u.0.4 ∙ is))
+  pub right-same : {M D : Type 0} (gm : media.Ghosts M) (gd : disks.Ghosts D) (p q : Pass T Entry Ground g) → IsUnchanged p q → IsRightPass gm gd p → IsRightPass gm gd q
+  right-same gm gd p q u right ground is = subst (λ h. IsRightOn gm gd ground h) (sym (ap (λ me. me.0.seen) u.1)) (right ground (sym u.0.4 ∙ is))
 
   -- what became of a pass of the gate is one of it still
-  pub served-one : {M : Type 0} (gm : media.Ghosts M) (c : ToldStreams) (main p q : Pass T Entry Ground g) (end : SessionEnd) → AreOfOne main p → ServedBy gm c p q end → AreOfOne main q
-  served-one gm c main p q end one s = (s.same.0.0 ∙ one.0, s.same.4 ∙ one.1)
+  pub served-one : {M D : Type 0} (gm : media.Ghosts M) (gd : disks.Ghosts D) (c : ToldStreams) (main p q : Pass T Entry Ground g) (end : SessionEnd) → AreOfOne main p → ServedBy gm gd c p q end → AreOfOne main q
+  served-one gm gd c main p q end one s = (s.same.0.0 ∙ one.0, s.same.4 ∙ one.1)
 
   -- one retired pass more is settled
   pub settles-one : (p q r : Pass T Entry Ground g) (all before rest : List (Retired T Entry Ground g)) (one : Retired T Entry Ground g)
@@ -97,10 +98,10 @@ module _ {S K T X : Type 0} {g : gates.Ghosts T Entry Ground} (gs : sources.Ghos
       (subst (AreOfOne q) (sym b.pass) one) (ap number_of b.pass ∙ number) b.told (stands-goes first cs n p q s a old)))
 
   -- a connection more was served, by a pass that is retired now
-  pub stands-served : {M : Type 0} (gm : media.Ghosts M) (first : ℕ) (cs : List ToldStreams) (c : ToldStreams) (n : ℕ) (p q pass ended : Pass T Entry Ground g) (end : SessionEnd) (s t u : Sessions X (Begun S K T Entry Ground g) T Entry Ground g)
-      → Goes n p q → number_of pass ≡ first + length cs → ServedBy gm c pass ended end → IsAsBefore s t → Retires q ended t.running.items t.retired.items (used_of t) (most_of t) u
+  pub stands-served : {M D : Type 0} (gm : media.Ghosts M) (gd : disks.Ghosts D) (first : ℕ) (cs : List ToldStreams) (c : ToldStreams) (n : ℕ) (p q pass ended : Pass T Entry Ground g) (end : SessionEnd) (s t u : Sessions X (Begun S K T Entry Ground g) T Entry Ground g)
+      → Goes n p q → number_of pass ≡ first + length cs → ServedBy gm gd c pass ended end → IsAsBefore s t → Retires q ended t.running.items t.retired.items (used_of t) (most_of t) u
       → Stands gs gk first cs p s → Stands gs gk first (cs ++ c ∷ []) q u
-  stands-served gm first cs c n p q pass ended end s t u a number served same r old =
+  stands-served gm gd first cs c n p q pass ended end s t u a number served same r old =
       subst (λ rs. Stand (pass_in gs gk) (told_in gs gk) first (cs ++ c ∷ []) q u.running.items rs) (sym (r.retired_now ∙ ap (λ v. v.items ++ r.last ∷ []) same.1))
       (subst (λ xs. Stand (pass_in gs gk) (told_in gs gk) first (cs ++ c ∷ []) q xs (s.retired.items ++ r.last ∷ [])) (sym (r.running_now ∙ same.0))
       (stand-served (pass_in gs gk) (told_in gs gk) first cs c end q s.running.items s.retired.items r.last r.past
@@ -143,11 +144,11 @@ module _ {S K T X : Type 0} {g : gates.Ghosts T Entry Ground} (gs : sources.Ghos
   stands-settle first cs p s h none all old = served-all first cs s.running.items s.retired.items h none all old.all
 
   -- a thread has ended and is taken in
-  pub takes-one : {M : Type 0} (gm : media.Ghosts M) (p q ended : Pass T Entry Ground g) (end : SessionEnd) (s u : Sessions X (Begun S K T Entry Ground g) T Entry Ground g) (one : Running X (Begun S K T Entry Ground g)) (k n : ℕ) (xs : List (Running X (Begun S K T Entry Ground g)))
+  pub takes-one : {M D : Type 0} (gm : media.Ghosts M) (gd : disks.Ghosts D) (p q ended : Pass T Entry Ground g) (end : SessionEnd) (s u : Sessions X (Begun S K T Entry Ground g) T Entry Ground g) (one : Running X (Begun S K T Entry Ground g)) (k n : ℕ) (xs : List (Running X (Begun S K T Entry Ground g)))
       → one ≡ slice_index_or s.running.items k one → xs ≡ remove s.running.items k → n + 1 ≡ used_of s
-      → ServedBy gm (told_in gs gk one) (pass_in gs gk one) ended end → Goes 0 p q → Retires q ended xs s.retired.items n (most_of s) u
+      → ServedBy gm gd (told_in gs gk one) (pass_in gs gk one) ended end → Goes 0 p q → Retires q ended xs s.retired.items n (most_of s) u
       → TakesIn gs gk p q s u
-  takes-one gm p q ended end s u one k n xs at removed used served goes r = record {
+  takes-one gm gd p q ended end s u one k n xs at removed used served goes r = record {
     goes = goes;
     used = let a = r.used_now in omega arith;
     most = r.most_now;

@@ -3,12 +3,13 @@ use Rattle.std.specs.Prelude.{◌≡◌, ℕ, ◌+◌, List, [], ◌∷◌, Opti
 use mathlib.Core.List.{IsPrefix}
 use Rattle.pr_io.specs.Told.{ToldStreams}
 use Rattle.pr_io.specs.declared.outside.Medium as media
+use Rattle.pr_io.specs.declared.outside.Disk as disks
 use Rattle.pr_model.specs.Entries.{Entry, History}
 use Rattle.pr_gate.specs.Entries.{own}
 use Rattle.pr_gate.specs.declared.pass.Pass.{Pass}
 use Rattle.pr_gate.specs.Passes.{IsSamePass, IsFree, number_of, seen_of, own_of, ground_of, spare_of}
 use Rattle.pr_core.specs.declared.ground.Ground.{Ground}
-use Rattle.pr_core.specs.Shared.{IsLegalOn}
+use Rattle.pr_core.specs.Shared.{IsRightOn}
 use Rattle.pr_session.specs.declared.session_end.SessionEnd.{SessionEnd}
 use Rattle.pr_session.specs.Ends.{Served, IsCaused}
 
@@ -21,16 +22,16 @@ pub record IsServed (c : ToldStreams) (who : ℕ) (end : SessionEnd) (es : Histo
   pub served : Served end who c.source.rest rest_now c.sink.written written_now [] es
   pub cause : IsCaused end c.source.faults source_faults c.sink.faults sink_faults
 
-module _ {M T : Type 0} {g : _} where
-  -- what a pass has seen is legal from what its target was opened with
-  abbrev pub IsLegalPass : media.Ghosts M → Pass T Entry Ground g → Type 0
-  IsLegalPass gm p = (ground : Ground) → ground_of p ≡ Some ground → IsLegalOn gm ground (seen_of p)
+module _ {M D T : Type 0} {g : _} where
+  -- what a pass has seen is right from what its target was opened with
+  abbrev pub IsRightPass : media.Ghosts M → disks.Ghosts D → Pass T Entry Ground g → Type 0
+  IsRightPass gm gd p = (ground : Ground) → ground_of p ≡ Some ground → IsRightOn gm gd ground (seen_of p)
 
   -- a connection of which this was told was served by a pass, and ended so: q is what became of the pass p
-  pub record ServedBy (gm : media.Ghosts M) (c : ToldStreams) (p q : Pass T Entry Ground g) (end : SessionEnd) : Type 0 where
+  pub record ServedBy (gm : media.Ghosts M) (gd : disks.Ghosts D) (c : ToldStreams) (p q : Pass T Entry Ground g) (end : SessionEnd) : Type 0 where
     pub same : IsSamePass p q
     pub free : IsFree q
-    pub legal : IsLegalPass gm q
+    pub right : IsRightPass gm gd q
     pub served : IsServed c (number_of p) end (own_of q)
 
 module _ {T : Type 0} {g : _} where

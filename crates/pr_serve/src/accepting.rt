@@ -4,7 +4,7 @@ ghost use Rattle.std.specs.Prelude.{◌≡◌, ◌<◌, ◌≤◌, ◌+◌, ◌^
 ghost use Rattle.pr_io.specs.Told.{ToldStreams};
 ghost use Rattle.pr_model.specs.Lanes.{fresh, turned};
 ghost use Rattle.pr_gate.specs.Passes.{IsOf, spare_of};
-ghost use Rattle.pr_serve.specs.Connections.{IsLegalPass};
+ghost use Rattle.pr_serve.specs.Connections.{IsRightPass};
 ghost use Rattle.pr_serve.specs.Crowds.{used_of, most_of, Stands};
 ghost use Rattle.pr_serve.specs.Accepting.{told_door, Accepts, Serves, IsCause};
 
@@ -42,11 +42,11 @@ where
     R: Threads + Wait + Sync + 's,
     requires gate { IsOf gate.now main.old }
     requires spare { 0 < spare_of main.old }
-    requires legal { IsLegalPass M.Medium main.old }
+    requires right { IsRightPass M.Medium D.Disk main.old }
     requires room { used_of sessions.old < most_of sessions.old }
     requires stands { (first : ℕ) × (cs : List ToldStreams)
         × Stands A.In.Source A.Out.Sink first cs main.old sessions.old }
-    ensures legal { IsLegalPass M.Medium main.new }
+    ensures right { IsRightPass M.Medium D.Disk main.new }
     ensures took { OnOk result ((c : ToldStreams) × Accepts A.In.Source A.Out.Sink
         (told_door (A.waiting door.old) (A.taken door.old))
         (told_door (A.waiting door.new) (A.taken door.new)) (c ∷ []) main.old main.new
@@ -95,12 +95,12 @@ where
     R: Threads + Wait + Sync + 's,
     requires gate { IsOf gate.now main.old }
     requires spare { many ≤ spare_of main.old }
-    requires legal { IsLegalPass M.Medium main.old }
+    requires right { IsRightPass M.Medium D.Disk main.old }
     requires room { used_of sessions.old + many ≤ most_of sessions.old }
     requires stands { (first : ℕ) × (cs : List ToldStreams)
         × (first + length cs + spare_of main.old ≡ 2 ^ 62 + 1)
         × Stands A.In.Source A.Out.Sink first cs main.old sessions.old }
-    ensures legal { IsLegalPass M.Medium main.new }
+    ensures right { IsRightPass M.Medium D.Disk main.new }
     ensures took { (more : List ToldStreams) × OnOk result (length more ≡ many)
         × Accepts A.In.Source A.Out.Sink (told_door (A.waiting door.old) (A.taken door.old))
         (told_door (A.waiting door.new) (A.taken door.new)) more main.old main.new
@@ -151,10 +151,10 @@ where
     requires gate { IsOf gate.now main }
     requires spare { many ≤ spare_of main }
     requires few { spare_of main ≤ 2 ^ 62 }
-    requires legal { IsLegalPass M.Medium main }
+    requires right { IsRightPass M.Medium D.Disk main }
     requires none { (sessions.running.items ≡ []) × (sessions.retired.items ≡ []) }
     requires room { used_of sessions + many ≤ most_of sessions }
-    ensures legal { IsLegalPass M.Medium result.1 }
+    ensures right { IsRightPass M.Medium D.Disk result.1 }
     ensures serves { (cs : List ToldStreams) × OnOk result.2 (length cs ≡ many)
         × Serves (told_door (A.waiting door) (A.taken door))
         (told_door (A.waiting result.0) (A.taken result.0)) main result.1 cs }
@@ -194,10 +194,10 @@ where
     requires gate { IsOf gate.now main }
     requires spare { many ≤ spare_of main }
     requires few { spare_of main ≤ 2 ^ 62 }
-    requires legal { IsLegalPass M.Medium main }
+    requires right { IsRightPass M.Medium D.Disk main }
     requires none { (sessions.running.items ≡ []) × (sessions.retired.items ≡ []) }
     requires room { used_of sessions + many ≤ most_of sessions }
-    ensures legal { IsLegalPass M.Medium result.1 }
+    ensures right { IsRightPass M.Medium D.Disk result.1 }
     ensures serves { (cs : List ToldStreams) × OnOk result.2 (length cs ≡ many)
         × Serves (told_door (A.waiting door) (A.taken door))
         (told_door (A.waiting result.0) (A.taken result.0)) main result.1 cs }
@@ -208,10 +208,10 @@ where
         rt,
         move |scope| -> (A, Pass<Core<M, D>>, Result<(), Stop>)
             requires { IsOf gate.now main × (many ≤ spare_of main) × (spare_of main ≤ 2 ^ 62)
-                × IsLegalPass M.Medium main
+                × IsRightPass M.Medium D.Disk main
                 × ((sessions.running.items ≡ []) × (sessions.retired.items ≡ []))
                 × (used_of sessions + many ≤ most_of sessions) }
-            ensures legal { IsLegalPass M.Medium result.1 }
+            ensures right { IsRightPass M.Medium D.Disk result.1 }
             ensures serves { (cs : List ToldStreams) × OnOk result.2 (length cs ≡ many)
                 × Serves (told_door (A.waiting door) (A.taken door))
                 (told_door (A.waiting result.0) (A.taken result.0)) main result.1 cs }

@@ -6,7 +6,7 @@ ghost use Rattle.pr_model.specs.Lanes.{fresh, turned};
 ghost use Rattle.pr_gate.specs.Passes.{IsOf, IsFree, IsUnchanged, own_of, spare_of, seen_of};
 ghost use Rattle.pr_session.specs.Sessions.{HasTurned};
 ghost use Rattle.pr_session.specs.declared.session_end.SessionEnd.TheVariants.{SpentTicket};
-ghost use Rattle.pr_serve.specs.Connections.{ServedBy, IsLegalPass, AreOfOne, Goes, AreServed};
+ghost use Rattle.pr_serve.specs.Connections.{ServedBy, IsRightPass, AreOfOne, Goes, AreServed};
 ghost use Rattle.pr_serve.specs.Crowds.{used_of, most_of, IsAsBefore, Retires, Stands, Starts, TakesIn};
 ghost use Rattle.pr_serve.specs.Standing.{IsPast, IsSettled};
 ghost use Rattle.std.specs.List.{AllByRecursion};
@@ -63,11 +63,11 @@ fn retire<S: Source, K: Sink, M: Medium, D: Disk>(
 )
     requires gate { IsOf gate.now main.old }
     requires one { AreOfOne main.old ended.pass × IsFree ended.pass }
-    requires legal { IsLegalPass M.Medium main.old × IsLegalPass M.Medium ended.pass }
+    requires right { IsRightPass M.Medium D.Disk main.old × IsRightPass M.Medium D.Disk ended.pass }
     requires room { used_of sessions.old < most_of sessions.old }
     requires cause { (ticket : ℕ) → ended.end ≡ SpentTicket ticket → 2 ^ 62 ≤ ticket }
     ensures goes { Goes 0 main.old main.new }
-    ensures legal { IsLegalPass M.Medium main.new }
+    ensures right { IsRightPass M.Medium D.Disk main.new }
     ensures retires { Retires main.new ended.pass sessions.old.running.items
         sessions.old.retired.items (used_of sessions.old) (most_of sessions.old) sessions.new }
 {
@@ -99,11 +99,11 @@ where
     R: Wait + Sync + 's,
     requires gate { IsOf gate.now pass × IsFree pass }
     requires none { own_of pass ≡ [] }
-    requires legal { IsLegalPass M.Medium pass }
+    requires right { IsRightPass M.Medium D.Disk pass }
     requires room { used_of sessions.old < most_of sessions.old }
     ensures thread { IfNone result (Starts S.Source K.Sink (told_streams S.Source K.Sink source sink)
         pass sessions.old sessions.new) }
-    ensures here { IfSome result (λ ended. ServedBy M.Medium
+    ensures here { IfSome result (λ ended. ServedBy M.Medium D.Disk
         (told_streams S.Source K.Sink source sink) pass ended.pass ended.end
         × IsAsBefore sessions.old sessions.new) }
 {
@@ -142,10 +142,10 @@ where
     R: Wait + Sync + 's,
     requires gate { IsOf gate.now main.old }
     requires spare { 0 < spare_of main.old }
-    requires legal { IsLegalPass M.Medium main.old }
+    requires right { IsRightPass M.Medium D.Disk main.old }
     requires room { used_of sessions.old < most_of sessions.old }
     ensures goes { Goes 1 main.old main.new }
-    ensures legal { IsLegalPass M.Medium main.new }
+    ensures right { IsRightPass M.Medium D.Disk main.new }
     ensures used { used_of sessions.new ≡ used_of sessions.old + 1 }
     ensures most { most_of sessions.new ≡ most_of sessions.old }
     ensures stands { (first : ℕ) (cs : List ToldStreams)
@@ -169,12 +169,12 @@ fn join<S: Source + Drop, K: Sink + Drop, M: Medium + Drop, D: Disk + Drop, R: T
     at: usize,
 )
     requires gate { IsOf gate.now main.old }
-    requires legal { IsLegalPass M.Medium main.old }
+    requires right { IsRightPass M.Medium D.Disk main.old }
     requires at { at < vec_len sessions.old.running }
     requires stands { (first : ℕ) × (cs : List ToldStreams)
         × Stands S.Source K.Sink first cs main.old sessions.old }
     ensures takes { TakesIn S.Source K.Sink main.old main.new sessions.old sessions.new }
-    ensures legal { IsLegalPass M.Medium main.new }
+    ensures right { IsRightPass M.Medium D.Disk main.new }
     ensures fewer { vec_len sessions.new.running + 1 ≡ vec_len sessions.old.running }
 {
     let Running { thread, has_ended } = sessions.running.remove(at);
@@ -196,11 +196,11 @@ where
     D: Disk + Drop,
     R: Threads,
     requires gate { IsOf gate.now main.old }
-    requires legal { IsLegalPass M.Medium main.old }
+    requires right { IsRightPass M.Medium D.Disk main.old }
     requires stands { (first : ℕ) × (cs : List ToldStreams)
         × Stands S.Source K.Sink first cs main.old sessions.old }
     ensures takes { TakesIn S.Source K.Sink main.old main.new sessions.old sessions.new }
-    ensures legal { IsLegalPass M.Medium main.new }
+    ensures right { IsRightPass M.Medium D.Disk main.new }
 {
     let mut at = 0;
     while at < sessions.running.len() {
@@ -226,11 +226,11 @@ where
     D: Disk + Drop,
     R: Threads,
     requires gate { IsOf gate.now main.old }
-    requires legal { IsLegalPass M.Medium main.old }
+    requires right { IsRightPass M.Medium D.Disk main.old }
     requires stands { (first : ℕ) × (cs : List ToldStreams)
         × Stands S.Source K.Sink first cs main.old sessions.old }
     ensures takes { TakesIn S.Source K.Sink main.old main.new sessions.old sessions.new }
-    ensures legal { IsLegalPass M.Medium main.new }
+    ensures right { IsRightPass M.Medium D.Disk main.new }
     ensures none { sessions.new.running.items ≡ [] }
 {
     while let Some(last) = sessions.running.len().checked_sub(1) {

@@ -5,7 +5,7 @@ ghost use Rattle.pr_io.specs.Told.{told_streams};
 ghost use Rattle.pr_model.specs.Lanes.{fresh, turned};
 ghost use Rattle.pr_gate.specs.Passes.{IsOf, IsFree, own_of};
 ghost use Rattle.pr_session.specs.Sessions.{HasTurned};
-ghost use Rattle.pr_serve.specs.Connections.{ServedBy, IsLegalPass};
+ghost use Rattle.pr_serve.specs.Connections.{ServedBy, IsRightPass};
 
 use crate::sessions::Flag;
 use pr_core::Core;
@@ -34,7 +34,7 @@ pub(crate) struct Begun<S, K, T: Stands> {
 
 impl<S: Source, K: Sink, M: Medium, D: Disk> Promise<Ended<Core<M, D>>>
     for Begun<S, K, Core<M, D>> {
-    ghost kept_by = { λ begun ended. ServedBy M.Medium
+    ghost kept_by = { λ begun ended. ServedBy M.Medium D.Disk
         (told_streams S.Source K.Sink begun.source.value begun.sink.value)
         begun.pass.value ended.pass ended.end };
 }
@@ -51,8 +51,8 @@ pub(crate) fn serve_one<S: Source + Drop, K: Sink + Drop, M: Medium, D: Disk, R:
     requires new { HasTurned session.old (turned fresh []) }
     requires gate { IsOf gate.now pass × IsFree pass }
     requires none { own_of pass ≡ [] }
-    requires legal { IsLegalPass M.Medium pass }
-    ensures served { ServedBy M.Medium (told_streams S.Source K.Sink source sink) pass result.pass
+    requires right { IsRightPass M.Medium D.Disk pass }
+    ensures served { ServedBy M.Medium D.Disk (told_streams S.Source K.Sink source sink) pass result.pass
         result.end }
 {
     let end = serve_held(
@@ -87,10 +87,10 @@ where
     requires new { HasTurned session (turned fresh []) }
     requires gate { IsOf gate.now pass × IsFree pass }
     requires none { own_of pass ≡ [] }
-    requires legal { IsLegalPass M.Medium pass }
+    requires right { IsRightPass M.Medium D.Disk pass }
     ensures thread { IfOk result (λ thread. (thread.promise.pass.value ≡ pass)
         × (thread.promise.source.value ≡ source) × (thread.promise.sink.value ≡ sink)) }
-    ensures here { IfErr result (λ ended. ServedBy M.Medium
+    ensures here { IfErr result (λ ended. ServedBy M.Medium D.Disk
         (told_streams S.Source K.Sink source sink) pass ended.pass ended.end) }
 {
     let begun = Begun {
@@ -100,8 +100,8 @@ where
     };
     let serve = move || -> Ended<Core<M, D>>
         requires { HasTurned session (turned fresh []) × IsOf gate.now pass × IsFree pass
-            × (own_of pass ≡ []) × IsLegalPass M.Medium pass }
-        ensures { ServedBy M.Medium (told_streams S.Source K.Sink source sink) pass result.pass
+            × (own_of pass ≡ []) × IsRightPass M.Medium D.Disk pass }
+        ensures { ServedBy M.Medium D.Disk (told_streams S.Source K.Sink source sink) pass result.pass
             result.end }
     {
         let mut session = session;

@@ -31,7 +31,7 @@ where
     K: Sink,
     R: Threads + Wait + Sync,
     requires few { asked accept ≤ 2 ^ 62 }
-    ensures ran { Ran M.Medium result.0 (asked accept) (D.story disk) (D.faults disk)
+    ensures ran { Ran M.Medium D.Disk result.0 (asked accept) (D.story disk) (D.faults disk)
         (M.count medium)
         (told_door (A.waiting door) (A.taken door))
         (told_door (A.waiting result.1) (A.taken result.1)) (A.faults door) (A.faults result.1)

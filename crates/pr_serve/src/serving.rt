@@ -3,7 +3,7 @@
 ghost use Rattle.std.specs.Prelude.{◌≡◌, ◌≤◌, ℕ, List, OnOk, IfErr, length};
 ghost use Rattle.pr_io.specs.Told.{ToldStreams, told_sink};
 ghost use Rattle.pr_gate.specs.Passes.{IsOf, IsFree, spare_of, seen_of};
-ghost use Rattle.pr_serve.specs.Connections.{IsLegalPass};
+ghost use Rattle.pr_serve.specs.Connections.{IsRightPass};
 ghost use Rattle.pr_serve.specs.Accepting.{told_door, asked, Serves, EndsSo, IsCause};
 
 use crate::accepting::serve_all;
@@ -72,9 +72,9 @@ where
     R: Threads + Wait + Sync,
     requires gate { IsOf gate.now pass × IsFree pass }
     requires spare { asked accept ≤ spare_of pass }
-    requires legal { IsLegalPass M.Medium pass }
+    requires right { IsRightPass M.Medium D.Disk pass }
     ensures gate { IsOf gate.now result.2 × IsFree result.2 }
-    ensures legal { IsLegalPass M.Medium result.2 }
+    ensures right { IsRightPass M.Medium D.Disk result.2 }
     ensures serves { (cs : List ToldStreams)
         × Serves (told_door (A.waiting door) (A.taken door))
         (told_door (A.waiting result.1) (A.taken result.1)) pass result.2 cs

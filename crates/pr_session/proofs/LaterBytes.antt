@@ -1,5 +1,5 @@
 -- Turns with more bytes behind them: what a connection's first bytes ask for, those bytes and more ask for too.
-use Rattle.std.proofs.Common.{◌≡◌, ℕ, zero, suc, ◌+◌, List, ◌++◌, refl, sym, ap, ◌∙◌, subst}
+use Rattle.std.proofs.Common.{◌≡◌, ℕ, zero, suc, List, ◌++◌, refl, sym, ap, ◌∙◌, subst}
 use Rattle.pr_model.specs.Entries.{History}
 use Rattle.pr_model.specs.Lanes.{Lane, Turn, Idle, Silent, Asks, turn, arrived}
 use Rattle.pr_model.specs.Runs.{Makes}

@@ -16,8 +16,8 @@ use Rattle.pr_io.specs.declared.outside.Medium as media
 use Rattle.pr_io.specs.declared.outside.Disk as disks
 use Rattle.pr_core.specs.declared.target.Core.{Core}
 use Rattle.pr_core.specs.declared.ground.Ground.{Ground}
-use Rattle.pr_core.specs.Shared.{Stands, AreOthers, IsPowered, IsLegalOn, ground_in}
-use Rattle.pr_core.proofs.SharedLaws.{others_stay, extends_stands}
+use Rattle.pr_core.specs.Shared.{Stands, AreOthers, IsPowered, IsRightOn, ground_in}
+use Rattle.pr_core.proofs.SharedLaws.{others_stay, extends_stands, stands_right}
 use Rattle.pr_session.specs.declared.act.Act.{Act}
 use Rattle.pr_session.specs.declared.act.Out.{Out}
 use Rattle.pr_session.specs.declared.act.Out.TheVariants as outs
@@ -186,9 +186,9 @@ module _ {M D : Type 0} {gm : media.Ghosts M} {gd : disks.Ghosts D} where
       ap (filter (λ (e : Entry). eqb e.who who)) begins.1 ∙ ap (λ (w : ℕ). filter (λ (e : Entry). eqb e.who w) seen_now) (sym same_who) ∙ now ∙ same ∙ sym was in
       subst Holds (sym same_core) (later given since (sym same_ground ∙ is) (subst (Stands given) (sym begins.1) stands) (others_since who seen since mine))
 
-  -- what was seen is legal
-  pub legal_seen : (c : Core M D gm gd) (g : Ground) (ground : Option Ground) (seen : History) → ground ≡ Some g → ground ≡ Some (ground_in c) → Stands c seen → IsLegalOn gm g seen
-  legal_seen c g ground seen is held stands = subst (λ (k : Ground). IsLegalOn gm k seen) (sym (same_some g (ground_in c) (sym is ∙ held))) stands.legal
+  -- what was seen is right
+  pub right_seen : (c : Core M D gm gd) (g : Ground) (ground : Option Ground) (seen : History) → ground ≡ Some g → ground ≡ Some (ground_in c) → Stands c seen → IsRightOn gm gd g seen
+  right_seen c g ground seen is held stands = subst (λ (k : Ground). IsRightOn gm gd k seen) (sym (same_some g (ground_in c) (sym is ∙ held))) (stands_right c seen stands)
 
   -- the outcome is one that the act can have
   pub published_fits : (who : ℕ) (ground : Option Ground) (own own_now seen : History) (l : Lane) (t : Turn) (n : Nexus) (a : Act) (s1 s2 : Session) (result : Out)

@@ -207,3 +207,21 @@ pub record Refuses (written written_now : Option (List ℕ)) (own own_now : Hist
 abbrev pub Answered : SessionEnd → ℕ → Option (List ℕ) → Option (List ℕ) → Option (List ℕ) → Option (List ℕ) → History → History → Type 0
 Answered NoMemory who rest rest_now written written_now own own_now = Refuses written written_now own own_now
 Answered end who rest rest_now written written_now own own_now = Served end who rest rest_now written written_now own own_now
+
+-- bytes that keep the link's rules, whatever comes of what they ask for: no front of them asks for a Reject or is replied to 2^32 times, and behind all of them no frame has begun
+pub record KeepsRules (who : ℕ) (bytes : List ℕ) : Type 0 where
+  pub right : (read more : List ℕ) (es : History) (replies : List ℕ) (l : Lane) (place reason : ℕ) → bytes ≡ read ++ more → EndsBy (IsReject place reason) who read es replies l → ⊥
+  pub few : (read more : List ℕ) (es : History) (replies : List ℕ) (l : Lane) → bytes ≡ read ++ more → AsksFor who read es replies l → replies_in es < 2 ^ 32
+  pub whole : (es : History) (replies : List ℕ) (l : Lane) → RestsAt who bytes es replies l → l.bytes ≡ []
+
+-- it ended with a Logout or between two frames, or else for want of turns or of memory
+abbrev pub EndsWell : SessionEnd → Type 0
+EndsWell Closed = Unit {0}
+EndsWell (SpentTicket ticket) = Unit {0}
+EndsWell NoMemory = Unit {0}
+EndsWell _ = ⊥
+
+-- so a connection ends whose bytes are told and keep the rules, where neither its source nor its sink fails
+abbrev pub Completes : SessionEnd → ℕ → Option (List ℕ) → ℕ → ℕ → ℕ → ℕ → Type 0
+Completes end who rest source source_now sink sink_now =
+    (bytes : List ℕ) → rest ≡ Some bytes → KeepsRules who bytes → (Rose source source_now → ⊥) → (Rose sink sink_now → ⊥) → EndsWell end

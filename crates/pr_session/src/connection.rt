@@ -4,10 +4,10 @@ ghost use Rattle.std.specs.Prelude.{◌≡◌, Some};
 ghost use mathlib.Core.List.{IsPrefix};
 ghost use Rattle.pr_model.specs.Entries.{History};
 ghost use Rattle.pr_core.specs.declared.ground.Ground.{Ground};
-ghost use Rattle.pr_core.specs.Shared.{IsLegalOn};
+ghost use Rattle.pr_core.specs.Shared.{IsRightOn};
 ghost use Rattle.pr_gate.specs.Passes.{IsOf, IsFree, IsSamePass, number_of, seen_of, own_of, ground_of};
 ghost use Rattle.pr_session.specs.declared.session_end.SessionEnd.TheVariants.{NoMemory};
-ghost use Rattle.pr_session.specs.Ends.{Answered, IsCaused, Refuses};
+ghost use Rattle.pr_session.specs.Ends.{Answered, IsCaused, Completes, Refuses};
 
 use crate::held::serve_held;
 use crate::session::Session;
@@ -36,14 +36,17 @@ pub fn serve_connection<S: Source, K: Sink, M: Medium, D: Disk, B: Breath, R: Wa
     requires { IsOf gate.now pass.old × IsFree pass.old }
     ensures same { IsSamePass pass.old pass.new × IsFree pass.new }
     ensures seen { IsPrefix (seen_of pass.old) (seen_of pass.new) }
-    ensures legal { (g : Ground) → ground_of pass.old ≡ Some g
-        → IsLegalOn M.Medium g (seen_of pass.old) → IsLegalOn M.Medium g (seen_of pass.new) }
+    ensures right { (g : Ground) → ground_of pass.old ≡ Some g
+        → IsRightOn M.Medium D.Disk g (seen_of pass.old)
+        → IsRightOn M.Medium D.Disk g (seen_of pass.new) }
     ensures answered { Answered result (number_of pass.old) (S.rest source.old)
         (S.rest source.new) (K.written sink.old) (K.written sink.new) (own_of pass.old)
         (own_of pass.new) }
     ensures untouched { result ≡ NoMemory → source.new ≡ source.old }
     ensures cause { IsCaused result (S.faults source.old) (S.faults source.new)
         (K.faults sink.old) (K.faults sink.new) }
+    ensures completes { Completes result (number_of pass.old) (S.rest source.old)
+        (S.faults source.old) (S.faults source.new) (K.faults sink.old) (K.faults sink.new) }
 {
     match Session::new(alloc) {
         Ok(mut session) => serve_held(rt, &mut session, gate, pass, source, sink, breath),

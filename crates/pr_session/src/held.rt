@@ -5,7 +5,7 @@ ghost use mathlib.Core.List.{IsPrefix};
 ghost use Rattle.pr_model.specs.Lanes.{fresh, turned};
 ghost use Rattle.pr_model.specs.Runs.{closing};
 ghost use Rattle.pr_core.specs.declared.ground.Ground.{Ground};
-ghost use Rattle.pr_core.specs.Shared.{IsLegalOn};
+ghost use Rattle.pr_core.specs.Shared.{IsRightOn};
 ghost use Rattle.pr_gate.specs.Passes.{IsOf, IsFree, IsSamePass, number_of, seen_of, own_of, ground_of};
 ghost use Rattle.pr_session.specs.Sessions.{HasTurned, IsSettled, lane_of};
 ghost use Rattle.pr_session.specs.Sharing.{WillAgree};
@@ -39,8 +39,9 @@ pub fn serve_held<S: Source, K: Sink, M: Medium, D: Disk, B: Breath, R: Wait>(
     requires gate { IsOf gate.now pass.old × IsFree pass.old }
     ensures same { IsSamePass pass.old pass.new × IsFree pass.new }
     ensures seen { IsPrefix (seen_of pass.old) (seen_of pass.new) }
-    ensures legal { (g : Ground) → ground_of pass.old ≡ Some g
-        → IsLegalOn M.Medium g (seen_of pass.old) → IsLegalOn M.Medium g (seen_of pass.new) }
+    ensures right { (g : Ground) → ground_of pass.old ≡ Some g
+        → IsRightOn M.Medium D.Disk g (seen_of pass.old)
+        → IsRightOn M.Medium D.Disk g (seen_of pass.new) }
     ensures served { Served result (number_of pass.old) (S.rest source.old) (S.rest source.new)
         (K.written sink.old) (K.written sink.new) (own_of pass.old) (own_of pass.new) }
     ensures cause { IsCaused result (S.faults source.old) (S.faults source.new)
@@ -70,8 +71,9 @@ fn serve_frames<S: Source, K: Sink, M: Medium, D: Disk, B: Breath, R: Wait>(
     requires gate { IsOf gate.now pass.old × IsFree pass.old }
     ensures same { IsSamePass pass.old pass.new × IsFree pass.new }
     ensures seen { IsPrefix (seen_of pass.old) (seen_of pass.new) }
-    ensures legal { (g : Ground) → ground_of pass.old ≡ Some g
-        → IsLegalOn M.Medium g (seen_of pass.old) → IsLegalOn M.Medium g (seen_of pass.new) }
+    ensures right { (g : Ground) → ground_of pass.old ≡ Some g
+        → IsRightOn M.Medium D.Disk g (seen_of pass.old)
+        → IsRightOn M.Medium D.Disk g (seen_of pass.new) }
     ensures over { Over result (number_of pass.old) (S.rest source.old) (S.rest source.new)
         (K.written sink.old) (K.written sink.new) (own_of pass.old) (own_of pass.new)
         (lane_of session.new) }
@@ -126,8 +128,9 @@ fn log_out<M: Medium, D: Disk, R: Wait>(
         (number_of pass.old) (seen_of pass.old) }
     ensures same { IsSamePass pass.old pass.new × IsFree pass.new }
     ensures seen { IsPrefix (seen_of pass.old) (seen_of pass.new) }
-    ensures legal { (g : Ground) → ground_of pass.old ≡ Some g
-        → IsLegalOn M.Medium g (seen_of pass.old) → IsLegalOn M.Medium g (seen_of pass.new) }
+    ensures right { (g : Ground) → ground_of pass.old ≡ Some g
+        → IsRightOn M.Medium D.Disk g (seen_of pass.old)
+        → IsRightOn M.Medium D.Disk g (seen_of pass.new) }
     ensures closes { IfOk result (λ _. own_of pass.new
         ≡ own_of pass.old ++ closing (number_of pass.old) (lane_of session.now).phase) }
     ensures spent { IfErr result (λ spent. (2 ^ 62 ≤ spent.ticket)

@@ -5,6 +5,7 @@ ghost use Rattle.pr_grammar.specs.Files.{Keeps, file_head, file_layout, file_res
 ghost use Rattle.pr_io.specs.Images.{Image};
 ghost use Rattle.pr_aptpl.specs.Opens.{FailsAt, IsFaultOf};
 ghost use Rattle.pr_core.specs.declared.ground.Ground.{Ground};
+ghost use Rattle.pr_core.specs.Shared.{IsRightOn};
 ghost use Rattle.pr_gate.specs.Passes.{IsOf, IsFree, number_of, seen_of, own_of, ground_of, spare_of};
 
 use pr_core::{Core, OpenFault};
@@ -31,6 +32,8 @@ pub fn open_gate<M: Medium + Drop, D: Disk + Drop>(
         × (g.blocks ≡ M.count medium)
         × ((image : Image) → (D.story disk).now ≡ Some image
         → file_restores image ≡ Keeps g.kept)) }
+    ensures right { IfOk result (λ made. (g : Ground) → ground_of made.1 ≡ Some g
+        → IsRightOn M.Medium D.Disk g (seen_of made.1)) }
     ensures fails { IfErr result (λ fault. FailsAt file_head file_layout fault (D.story disk)) }
     ensures cause { IfErr result (λ fault. (faults : ℕ)
         × IsFaultOf fault (D.faults disk) faults) }

@@ -6,7 +6,7 @@ ghost use Rattle.pr_io.specs.Causes.{Rose};
 ghost use Rattle.pr_model.specs.Entries.{History};
 ghost use Rattle.pr_model.specs.Lanes.{AwaitsFrame, Dead, Idle, turn};
 ghost use Rattle.pr_core.specs.declared.ground.Ground.{Ground};
-ghost use Rattle.pr_core.specs.Shared.{IsLegalOn};
+ghost use Rattle.pr_core.specs.Shared.{IsRightOn};
 ghost use Rattle.pr_gate.specs.Passes.{IsOf, IsFree, IsSamePass, number_of, seen_of, own_of, ground_of};
 ghost use Rattle.pr_session.specs.declared.session_end.SessionEnd.TheVariants.{SpentTicket, ReadFault, WriteFault};
 ghost use Rattle.pr_session.specs.Sessions.{IsSettled, lane_of, reply_of};
@@ -44,8 +44,9 @@ pub fn serve_turn<S: Source, K: Sink, M: Medium, D: Disk, R: Wait>(
         (number_of pass.old) (seen_of pass.old) }
     ensures same { IsSamePass pass.old pass.new × IsFree pass.new }
     ensures seen { IsPrefix (seen_of pass.old) (seen_of pass.new) }
-    ensures legal { (g : Ground) → ground_of pass.old ≡ Some g
-        → IsLegalOn M.Medium g (seen_of pass.old) → IsLegalOn M.Medium g (seen_of pass.new) }
+    ensures right { (g : Ground) → ground_of pass.old ≡ Some g
+        → IsRightOn M.Medium D.Disk g (seen_of pass.old)
+        → IsRightOn M.Medium D.Disk g (seen_of pass.new) }
     ensures since { IfOk result (λ _. (rest written : Option (List ℕ)) (own : History)
         → Since (number_of pass.old) rest (S.rest source.old) written (K.written sink.old) own
         (own_of pass.old) session.old

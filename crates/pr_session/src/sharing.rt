@@ -5,7 +5,7 @@ ghost use mathlib.Core.List.{IsPrefix};
 ghost use Rattle.pr_model.specs.Entries.{History};
 ghost use Rattle.pr_model.specs.Lanes.{Dead, Idle, turn};
 ghost use Rattle.pr_core.specs.declared.ground.Ground.{Ground};
-ghost use Rattle.pr_core.specs.Shared.{IsLegalOn};
+ghost use Rattle.pr_core.specs.Shared.{IsRightOn};
 ghost use Rattle.pr_gate.specs.Passes.{IsOf, IsFree, IsSamePass, number_of, seen_of, own_of, ground_of};
 ghost use Rattle.pr_session.specs.declared.asked.Asked.{Asked};
 ghost use Rattle.pr_session.specs.States.{asked_in};
@@ -42,8 +42,9 @@ pub fn drive_shared<M: Medium, D: Disk, R: Wait>(
         (number_of pass.old) (seen_of pass.old) }
     ensures same { IsSamePass pass.old pass.new × IsFree pass.new }
     ensures seen { IsPrefix (seen_of pass.old) (seen_of pass.new) }
-    ensures legal { (g : Ground) → ground_of pass.old ≡ Some g
-        → IsLegalOn M.Medium g (seen_of pass.old) → IsLegalOn M.Medium g (seen_of pass.new) }
+    ensures right { (g : Ground) → ground_of pass.old ≡ Some g
+        → IsRightOn M.Medium D.Disk g (seen_of pass.old)
+        → IsRightOn M.Medium D.Disk g (seen_of pass.new) }
     ensures shares { IfOk result (λ _. Shares (number_of pass.old) (own_of pass.old)
         (lane_of session.old) (turn (lane_of session.old)) (own_of pass.new)
         (lane_of session.new) (reply_of session.new)) }
@@ -83,8 +84,9 @@ fn publish<M: Medium, D: Disk, R: Wait>(
         (number_of pass.old) (seen_of pass.old) }
     ensures same { IsSamePass pass.old pass.new × IsFree pass.new }
     ensures seen { IsPrefix (seen_of pass.old) (seen_of pass.new) }
-    ensures legal { (g : Ground) → ground_of pass.old ≡ Some g
-        → IsLegalOn M.Medium g (seen_of pass.old) → IsLegalOn M.Medium g (seen_of pass.new) }
+    ensures right { (g : Ground) → ground_of pass.old ≡ Some g
+        → IsRightOn M.Medium D.Disk g (seen_of pass.old)
+        → IsRightOn M.Medium D.Disk g (seen_of pass.new) }
     ensures publishes { IfOk result (λ out. (a : Asked) → asked_in session.old.state ≡ Some a
         → Publishes M.Medium D.Disk a (number_of pass.old) (work_of session.old) out
         (work_of session.new) (ground_of pass.new) (own_of pass.old) (own_of pass.new)

@@ -18,7 +18,7 @@ loop-taken-preserved g c =
     let i = c.loop-taken.invariant.4 in let took = c.in-Ok.ensures.took in let n = i.1 in
     let before = c.loop-taken.invariant.3 in let later = c.in-Ok.ensures.later in (
       search rules,
-      c.in-Ok.ensures.legal,
+      c.in-Ok.ensures.right,
       search rules,
       omega arith,
       (i.0 ++ took.0 ∷ [], omega (arith, length-append i.0 (took.0 ∷ [])), accepts-more g.A.In.Source g.A.Out.Sink _ _ _ _ _ _ _ _ _ _ _ i.2 took.1),

@@ -1,6 +1,6 @@
 use Rattle.std.proofs.Common.{ℕ, ◌+◌, ◌-◌, ◌^◌, [], ◌++◌, arith}
 use Rattle.pr_gate.specs.Passes.{spare_of}
-use Rattle.pr_serve.proofs.Crowding.{stands-new, goes-same, legal-same}
+use Rattle.pr_serve.proofs.Crowding.{stands-new, goes-same, right-same}
 use Rattle.pr_serve.proofs.Acceptings.{serves-all, on-all}
 use Rattle.pr_serve.proofs.accepting.serve_in.Goals as goal
 
@@ -23,8 +23,8 @@ settle-requires-clause-stands g c =
           (took.2.stands first [] (omega arith) (stands-new g.A.In.Source g.A.Out.Sink first c.args.main c.args.sessions c.requires.none.0 c.requires.none.1)),
     )
 
-pub returns-clause-legal : goal.returns-clause-legal
-returns-clause-legal g c = legal-same g.M.Medium c.take_in_all.new.main c.settle.new.main c.settle.ensures.same c.take_in_all.ensures.legal
+pub returns-clause-right : goal.returns-clause-right
+returns-clause-right g c = right-same g.M.Medium g.D.Disk c.take_in_all.new.main c.settle.new.main c.settle.ensures.same c.take_in_all.ensures.right
 
 pub returns-clause-serves : goal.returns-clause-serves
 returns-clause-serves g c =

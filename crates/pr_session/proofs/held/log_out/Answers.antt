@@ -4,7 +4,7 @@ use Rattle.pr_core.specs.Shared.{Stands, ground_in}
 use Rattle.pr_gate.specs.Passes.{number_of, seen_of, own_of, ground_of}
 use Rattle.pr_session.specs.Sessions.{work_of, lane_of}
 use Rattle.pr_session.specs.Coming.{Agrees}
-use Rattle.pr_session.proofs.Sharings.{holds_now, legal_seen}
+use Rattle.pr_session.proofs.Sharings.{holds_now, right_seen}
 use Rattle.pr_session.proofs.Closings.{owner_by, out_stands, out_ground}
 use Rattle.pr_session.proofs.held.log_out.Goals as goal
 
@@ -23,11 +23,11 @@ pub leave-requires-clause-stands : goal.leave-requires-clause-stands
 leave-requires-clause-stands g c κs within =
     out_stands c.number-who.result c.in-Some.nexus c.value.result.now c.logout.new.self c.in_ok-turn.turn.value (seen_of c.enter.new.pass) c.logout-2.result c.logout.ensures.entry c.logout-2.ensures c.value.ensures.value c.in_ok-turn.ensures.value
 
-pub returns-clause-legal : goal.returns-clause-legal
-returns-clause-legal g c k is legal =
+pub returns-clause-right : goal.returns-clause-right
+returns-clause-right g c k is right =
     let next = c.logout.new.self in
     let given = c.in_ok-turn.turn.value in
     let now : Stands next (seen_of c.leave.new.pass) = subst (Stands next) (sym c.leave.ensures.seen)
     (out_stands c.number-who.result c.in-Some.nexus c.value.result.now next given (seen_of c.enter.new.pass) c.logout-2.result c.logout.ensures.entry c.logout-2.ensures c.value.ensures.value c.in_ok-turn.ensures.value) in
     let held : ground_of c.args.pass.now ≡ Some (ground_in next) = sym c.enter.ensures.same.4 ∙ c.in_ok-turn.ensures.ground ∙ ap Some (out_ground c.value.result.now next given _ c.logout.ensures.entry c.value.ensures.value) in
-    legal_seen next k (ground_of c.args.pass.now) (seen_of c.leave.new.pass) is held now
+    right_seen next k (ground_of c.args.pass.now) (seen_of c.leave.new.pass) is held now

@@ -22,7 +22,7 @@ loop-init g c =
       agrees = new_agrees g.M.Medium g.D.Disk s (ground_of p) (number_of p) (seen_of p) new;
       same = search rules;
       seen = search rules;
-      legal = λ k is legal. legal;
+      right = λ k is right. right;
       since = since_new (number_of p) (g.S.Source.rest c.args.source.now) (g.K.Sink.written c.args.sink.now) (own_of p) s new;
       frames = search rules;
       few = search rules;
@@ -45,7 +45,7 @@ loop-preserved-else-replied-eq-FRAMES g c =
       agrees = c.in-Ok-true.ensures.agrees;
       same = search rules;
       seen = prefix_trans (seen_of c.args.pass.now) (seen_of c.loop.pass) (seen_of c.serve_turn.new.pass) c.loop.invariant.seen c.serve_turn.ensures.seen;
-      legal = λ k is legal. c.serve_turn.ensures.legal k (c.loop.invariant.same.4 ∙ is) (c.loop.invariant.legal k is legal);
+      right = λ k is right. c.serve_turn.ensures.right k (c.loop.invariant.same.4 ∙ is) (c.loop.invariant.right k is right);
       since = since_goes (number_of c.args.pass.now) (number_of c.loop.pass) rest (g.S.Source.rest c.loop.source) (g.S.Source.rest c.serve_turn.new.source) written (g.K.Sink.written c.loop.sink) (g.K.Sink.written c.serve_turn.new.sink) own (own_of c.loop.pass) (own_of c.serve_turn.new.pass) c.loop.session c.serve_turn.new.session
           c.loop.invariant.same.1 (c.in-Ok-true.ensures.since rest written own) c.loop.invariant.since;
       frames = search rules;
@@ -69,7 +69,7 @@ loop-preserved g c =
       agrees = c.in-Ok-false.ensures.agrees;
       same = search rules;
       seen = prefix_trans (seen_of c.args.pass.now) (seen_of c.loop.pass) (seen_of c.serve_turn.new.pass) c.loop.invariant.seen c.serve_turn.ensures.seen;
-      legal = λ k is legal. c.serve_turn.ensures.legal k (c.loop.invariant.same.4 ∙ is) (c.loop.invariant.legal k is legal);
+      right = λ k is right. c.serve_turn.ensures.right k (c.loop.invariant.same.4 ∙ is) (c.loop.invariant.right k is right);
       since = since_goes (number_of c.args.pass.now) (number_of c.loop.pass) rest (g.S.Source.rest c.loop.source) (g.S.Source.rest c.serve_turn.new.source) written (g.K.Sink.written c.loop.sink) (g.K.Sink.written c.serve_turn.new.sink) own (own_of c.loop.pass) (own_of c.serve_turn.new.pass) c.loop.session c.serve_turn.new.session
           c.loop.invariant.same.1 (c.in-Ok-false.ensures.since rest written own) c.loop.invariant.since;
       frames = search rules;

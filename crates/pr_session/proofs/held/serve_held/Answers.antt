@@ -19,7 +19,7 @@ returns-in-Ok g c =
     record {
       same = search rules;
       seen = prefix_trans (seen_of c.args.pass.now) (seen_of f.new.pass) (seen_of c.log_out.new.pass) f.ensures.seen c.log_out.ensures.seen;
-      legal = λ k is legal. c.log_out.ensures.legal k (f.ensures.same.0.4 ∙ is) (f.ensures.legal k is legal);
+      right = λ k is right. c.log_out.ensures.right k (f.ensures.same.0.4 ∙ is) (f.ensures.right k is right);
       served =
           served_out (number_of c.args.pass.now) (g.S.Source.rest c.args.source.now) (g.S.Source.rest f.new.source) (g.K.Sink.written c.args.sink.now) (g.K.Sink.written f.new.sink) (own_of c.args.pass.now) (own_of f.new.pass) m
           (own_of c.log_out.new.pass) f.result f.ensures.over f.ensures.within f.ensures.ended c.in_default.not-SpentTicket (c.in-Ok.ensures.closes ∙ ap (λ (w : ℕ). own_of f.new.pass ++ closing w m.phase) f.ensures.same.0.1);
@@ -32,7 +32,7 @@ returns-in-Err g c =
     record {
       same = search rules;
       seen = prefix_trans (seen_of c.args.pass.now) (seen_of f.new.pass) (seen_of c.log_out.new.pass) f.ensures.seen c.log_out.ensures.seen;
-      legal = λ k is legal. c.log_out.ensures.legal k (f.ensures.same.0.4 ∙ is) (f.ensures.legal k is legal);
+      right = λ k is right. c.log_out.ensures.right k (f.ensures.same.0.4 ∙ is) (f.ensures.right k is right);
       served =
           served_spent (number_of c.args.pass.now) (g.S.Source.rest c.args.source.now) (g.S.Source.rest f.new.source) (g.K.Sink.written c.args.sink.now) (g.K.Sink.written f.new.sink) (own_of c.args.pass.now) (own_of f.new.pass) (lane_of f.new.session)
           (own_of c.log_out.new.pass) f.result c.in-Err.field-0.ticket f.ensures.over f.ensures.within c.in-Err.ensures.spent.1;

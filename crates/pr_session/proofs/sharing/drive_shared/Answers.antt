@@ -25,7 +25,7 @@ returns-in-Need g c =
     record {
       same = search rules;
       seen = search rules;
-      legal = λ k is legal. legal;
+      right = λ k is right. right;
       shares = shares_calm (number_of c.args.pass.now) (own_of c.args.pass.now) (lane_of c.args.session.now) (turn (lane_of c.args.session.now)) c.want.result c.want.new.self b (search rules);
       made = idle_where (lane_of c.args.session.now) (turn (lane_of c.args.session.now)) _ c.want.new.self (rw c.in-Need.is at b);
       ends = λ dead. absurd (c.requires.lives (ap (λ (m : Lane). m.phase) (sym (idle_stays (lane_of c.args.session.now) (turn (lane_of c.args.session.now)) _ c.want.new.self (rw c.in-Need.is at b))) ∙ dead));

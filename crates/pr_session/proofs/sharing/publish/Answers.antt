@@ -8,7 +8,7 @@ use Rattle.pr_session.specs.Sessions.{work_of}
 use Rattle.pr_session.specs.Acts.{act_by, outcome_by}
 use Rattle.pr_session.specs.Asking.{nexus_in}
 use Rattle.pr_session.specs.Driving.{Does, IsReadyIn}
-use Rattle.pr_session.proofs.Sharings.{holds_now, legal_seen, asked_some, stands_more, same_ground_after}
+use Rattle.pr_session.proofs.Sharings.{holds_now, right_seen, asked_some, stands_more, same_ground_after}
 use Rattle.pr_session.proofs.sharing.publish.Goals as goal
 
 pub sent_bytes-sent-requires : goal.sent_bytes-sent-requires
@@ -50,8 +50,8 @@ leave-requires-clause-stands g c κs within =
     subst (λ (e : Entry). Stands c.perform-out.new.core (seen ++ e ∷ [])) (sym made)
     (stands_more a.0 c.number-who.result core c.perform-out.new.core (work_of c.args.session.now) (work_of c.perform-out.new.self) c.perform-out.result seen (c.perform-out.ensures.does a.0 a.1) before)
 
-pub returns-clause-legal : goal.returns-clause-legal
-returns-clause-legal g c k is legal =
+pub returns-clause-right : goal.returns-clause-right
+returns-clause-right g c k is right =
     let a = asked_some (asked_in c.args.session.now.state) c.requires.wants in
     let core = c.value.result.now in
     let next = c.perform-out.new.core in
@@ -63,7 +63,7 @@ returns-clause-legal g c k is legal =
     (subst (λ (e : Entry). Stands next (seen ++ e ∷ [])) (sym made) (stands_more a.0 c.number-who.result core next (work_of c.args.session.now) (work_of c.perform-out.new.self) c.perform-out.result seen does before)) in
     let held : ground_of c.args.pass.now ≡ Some (ground_in next) = sym c.enter.ensures.same.4 ∙ c.in_ok-turn.ensures.ground ∙ ap (λ (k : Core g.row.M.Denot g.row.D.Denot g.M.Medium g.D.Disk). Some (ground_in k)) (sym c.value.ensures.value)
     ∙ ap Some (sym (same_ground_after a.0 c.number-who.result core next (work_of c.args.session.now) (work_of c.perform-out.new.self) c.perform-out.result does)) in
-    legal_seen next k (ground_of c.args.pass.now) (seen_of c.leave.new.pass) is held now
+    right_seen next k (ground_of c.args.pass.now) (seen_of c.leave.new.pass) is held now
 
 pub returns-clause-publishes : goal.returns-clause-publishes
 returns-clause-publishes g c a is =

@@ -1,4 +1,4 @@
-use Rattle.std.proofs.Common.{◌≡◌, Option, is_some, refl, sym, ap, ◌∙◌, subst}
+use Rattle.std.proofs.Common.{Option, is_some, refl, sym, ap, ◌∙◌, subst}
 use Rattle.pr_io.specs.Images.{Image}
 use Rattle.pr_grammar.specs.Files.{file_head, file_layout}
 use Rattle.pr_model.specs.Keeping.{Kept}
