@@ -10,6 +10,7 @@ use Rattle.pr_words.specs.declared.nexus.Nexus.{Nexus}
 use Rattle.pr_words.specs.declared.nexus.Pair.{Pair}
 use Rattle.pr_words.specs.declared.reservation.Kind.{Kind}
 use Rattle.pr_words.specs.declared.reservation.Reservation.TheVariants.{OfOne, OfAll}
+use Rattle.pr_words.specs.declared.limits.TheConstants.{LIMIT}
 use Rattle.pr_grammar.specs.Standings.{Kept, Nothing, Some_kept, IsAscending, is_all, is_port, is_registered}
 use Rattle.pr_grammar.specs.Files.{Listed, Good, Wrong, put_first, first_pair, is_after, checked, listed, Slot, Closed, Open, Broken, nexus_at, reservation_at, is_type, is_count, is_holder_place, field_fault, filled, unless_broken, opened, slot}
 use Rattle.pr_model.specs.Registrants.{IsHeldIn}
@@ -101,7 +102,7 @@ count_parts limit kind n b is =
     let second = and_parts (not (nat_lt limit n)) (b || n == 0) first.0 in
     (ltb-false limit n (not-true (nat_lt limit n) second.0), first.1)
 
-filled_sound : (b : Bool) (turn kind n holder at : ℕ) (bytes : List ℕ) (t : ℕ) (k : Kept) (l : Listed) → listed n None at bytes ≡ l → filled turn b kind holder l ≡ Open t k → n ≤ 64 → (kind == 0 || nat_lt 0 n) ≡ true
+filled_sound : (b : Bool) (turn kind n holder at : ℕ) (bytes : List ℕ) (t : ℕ) (k : Kept) (l : Listed) → listed n None at bytes ≡ l → filled turn b kind holder l ≡ Open t k → n ≤ LIMIT → (kind == 0 || nat_lt 0 n) ≡ true
     → is_holder_place (kind_at kind) n holder ≡ true → IsKeepable k
 filled_sound b turn kind n holder at bytes t k (Wrong place) read is small some place_ok = cc
 filled_sound false turn kind n holder at bytes t k (Good ps) read is small some place_ok =
@@ -124,22 +125,22 @@ filled_sound true turn kind n holder at bytes t k (Good ps) read is small some p
     })
 
 opened_sound : (turn kept kind n holder at : ℕ) (rest : List ℕ) (t : ℕ) (k : Kept)
-    → unless_broken (field_fault 64 turn kept kind n holder) at (filled turn (kept == 1) kind holder (listed n None (at + 16) rest)) ≡ Open t k → IsKeepable k
+    → unless_broken (field_fault LIMIT turn kept kind n holder) at (filled turn (kept == 1) kind holder (listed n None (at + 16) rest)) ≡ Open t k → IsKeepable k
 opened_sound turn kept kind n holder at rest t k is =
-    let tests = passed 64 turn kept kind n holder at _ t k is in
-    let counts = count_parts 64 kind n (kept == 1) tests.0 in
+    let tests = passed LIMIT turn kept kind n holder at _ t k is in
+    let counts = count_parts LIMIT kind n (kept == 1) tests.0 in
     filled_sound (kept == 1) turn kind n holder (at + 16) rest t k (listed n None (at + 16) rest) refl tests.2 counts.0 counts.1 tests.1
 
-slot_keepable : (at : ℕ) (bytes : List ℕ) (t : ℕ) (k : Kept) → slot 64 at bytes ≡ Open t k → IsKeepable k
+slot_keepable : (at : ℕ) (bytes : List ℕ) (t : ℕ) (k : Kept) → slot LIMIT at bytes ≡ Open t k → IsKeepable k
 unfolding slot
 slot_keepable at bytes t k is =
     opened_sound (slice_index bytes 1) (slice_index bytes 2) (slice_index bytes 3) (number16_at bytes 4) (number16_at bytes 6) at (drop 16 bytes) t k (if_open (slice_index bytes 0 == 0xA5) is)
   where
-    if_open : (b : Bool) → (if b then opened 64 at bytes else Closed) ≡ Open t k → opened 64 at bytes ≡ Open t k
+    if_open : (b : Bool) → (if b then opened LIMIT at bytes else Closed) ≡ Open t k → opened LIMIT at bytes ≡ Open t k
     if_open true e = e
     if_open false e = cc
 
-pub slot_sound : (at : ℕ) (bytes : List ℕ) (s : Slot) → s ≡ slot 64 at bytes → IsSound s
+pub slot_sound : (at : ℕ) (bytes : List ℕ) (s : Slot) → s ≡ slot LIMIT at bytes → IsSound s
 slot_sound at bytes Closed is = tt
 slot_sound at bytes (Broken place) is = tt
 slot_sound at bytes (Open t k) is = slot_keepable at bytes t k (sym is)

@@ -1,5 +1,5 @@
 -- The three parts of a save together, where each of them may fail.
-use Rattle.std.proofs.Common.{◌≡◌, inl, ℕ, ◌+◌, ◌*◌, ◌<◌, ◌≤◌, Bool, true, false, not, List, [], ◌∷◌, ◌++◌, length, Option, Some, is_some, Result, Ok, Err, IsErr, refl, sym, subst, arith}
+use Rattle.std.proofs.Common.{◌≡◌, inl, ℕ, ◌+◌, ◌*◌, ◌^◌, ◌<◌, ◌≤◌, Bool, true, false, not, List, [], ◌∷◌, ◌++◌, length, Option, Some, is_some, Result, Ok, Err, IsErr, refl, sym, subst, arith}
 use Rattle.std.proofs.lemmas.Result.{IfOk-at_ok}
 use Rattle.pr_grammar.specs.Standings.{Standing, Kept}
 use Rattle.pr_grammar.specs.Files.{restores, place_of, spelled_slot}
@@ -76,7 +76,7 @@ module _ (head : List ℕ) (l : FileLayout) (apart : IsApart head l) where
       pub after_two : {T E : Type 0} (q : Result T E) (k : Kept) → IsErr q → now ≡ false → Ends q t turn now s0 s2 ks k
       after_two q k err same = failed_early q t turn now s0 s2 ks k err (subst (λ (o : Bool). Stands head l t turn o s2 ks) (sym same) two.0) (goes_on s0 s1 s2 _ one.1 two.1)
 
-      module _ (x2 : Tb) (ok2 : r2 ≡ Ok x2) (s : Standing) (formed : IsWellFormed l.limit s) (ports : HavePorts s.pairs) (fits : s.preserve ≡ true → AreInFields s.pairs) (few : l.limit < 65536)
+      module _ (x2 : Tb) (ok2 : r2 ≡ Ok x2) (s : Standing) (formed : IsWellFormed l.limit s) (ports : HavePorts s.pairs) (fits : s.preserve ≡ true → AreInFields s.pairs) (few : l.limit < 2 ^ 16)
           (spelled : 0xA5 ∷ body ≡ spelled_slot (turn_after turn) (kept s)) (s3 : Story) {Tc Ec : Type 0} (r3 : Result Tc Ec) (opens : Puts r3 gate (0xA5 ∷ []) s2 s3) where
         filled : (c : Image) → Admits s2 c → IsFilled l t turn (kept s) c
         filled c admitted =

@@ -184,7 +184,7 @@ count_is limit r ps held small =
     some (OfAll k) h = or_right _ _ (lt-ltb 0 (length ps) h.1)
 
 -- the whole slot
-pub slot_read : (limit at turn : ℕ) (s : Standing) (rest : List ℕ) → IsWellFormed limit s → HavePorts s.pairs → (s.preserve ≡ true → AreInFields s.pairs) → turn < 3 → limit < 65536
+pub slot_read : (limit at turn : ℕ) (s : Standing) (rest : List ℕ) → IsWellFormed limit s → HavePorts s.pairs → (s.preserve ≡ true → AreInFields s.pairs) → turn < 3 → limit < 2 ^ 16
     → slot limit at (spelled_slot turn (kept s) ++ rest) ≡ Open turn (kept s)
 slot_read limit at turn s rest formed ports fits turn_small limit_small = by s.preserve refl
   where
@@ -209,7 +209,7 @@ slot_read limit at turn s rest formed ports fits turn_small limit_small = by s.p
     by true is = some is
 
 -- a slot whose bytes behind the gate were spelled
-pub body_filled : (l : FileLayout) (t : Bool) (turn : Option ℕ) (s : Standing) (body : List ℕ) (c : Image) → IsWellFormed l.limit s → HavePorts s.pairs → (s.preserve ≡ true → AreInFields s.pairs) → l.limit < 65536
+pub body_filled : (l : FileLayout) (t : Bool) (turn : Option ℕ) (s : Standing) (body : List ℕ) (c : Image) → IsWellFormed l.limit s → HavePorts s.pairs → (s.preserve ≡ true → AreInFields s.pairs) → l.limit < 2 ^ 16
     → 0xA5 ∷ body ≡ spelled_slot (turn_after turn) (kept s) → length body ≤ 15 + 18 * l.limit → Holds (place_of l t + 1) body c → IsFilled l t turn (kept s) c
 body_filled l t turn s body c formed ports fits limit_small spelled small holds =
     let rest = 15 + 18 * l.limit - length body in

@@ -1,6 +1,7 @@
 -- Kept values that a file may restore (this project's own).
 use Rattle.std.specs.Prelude.{◌<◌, ◌^◌, List, All, IsTrue}
 use Rattle.pr_words.specs.declared.nexus.Pair.{Pair}
+use Rattle.pr_words.specs.declared.limits.TheConstants.{LIMIT}
 use Rattle.pr_grammar.specs.Standings.{Kept, is_port}
 use Rattle.pr_model.specs.Registrants.{IsWellFormed}
 use Rattle.pr_model.specs.Worlds.{restored}
@@ -11,7 +12,7 @@ HavePorts ps = All (λ p. IsTrue (is_port p.nexus.port)) ps
 
 -- what a file may hold: at most 64 registrations, in order, with keys other than zero and ports of the target, and each reservation holder registered
 pub record IsKeepable (k : Kept) : Type 0 where
-  pub formed : IsWellFormed 64 (restored k)
+  pub formed : IsWellFormed LIMIT (restored k)
   pub ports : HavePorts (restored k).pairs
 
 -- each number fits its field of the file

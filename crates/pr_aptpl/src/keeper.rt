@@ -3,23 +3,23 @@ ghost use Rattle.pr_grammar.specs.Standings.{Kept};
 ghost use Rattle.pr_grammar.specs.Files.{file_head, file_layout, spelled_slot};
 ghost use Rattle.pr_io.specs.Causes.{HasCause};
 ghost use Rattle.pr_io.specs.Images.{Stays};
+ghost use Rattle.pr_words.specs.declared.limits.TheConstants.{LIMIT};
 ghost use Rattle.pr_model.specs.Keeping.{kept};
 ghost use Rattle.pr_model.specs.Registrants.{IsWellFormed};
 ghost use Rattle.pr_table.specs.Tables.{standing_of};
 ghost use Rattle.pr_aptpl.specs.Doubts.{AreInFields, HavePorts, IsKeepable};
 ghost use Rattle.pr_aptpl.specs.Opens.{FailsAt, IsFaultOf};
+ghost use Rattle.pr_aptpl.specs.declared.opening.TheConstants.{SLOT};
 
 use crate::OpenFault;
 use crate::aim::Aim;
-use crate::opening::{FILE, open_file};
+use crate::opening::{SLOT, open_file};
 use crate::parts::{close, fill, open_gate};
 use crate::spelling::spell;
+use pr_grammar::FILE_LAYOUT;
 use pr_io::{Disk, Failed};
 use pr_table::{Kept, Table};
 use std::alloc::Global;
-
-/// The bytes of a slot.
-const SLOT: usize = 1168;
 
 /// Keeps on a disk what outlives a power loss.
 ///
@@ -30,16 +30,16 @@ pub struct Keeper<D: Disk> {
     buffer: Vec<u8>,
     aim: Aim,
     in_doubt: bool,
-    ghost room: { length buffer.items ≡ 1168 },
+    ghost room: { length buffer.items ≡ SLOT },
 }
 
 /// Spells an open slot into the keeper's buffer, and says how long it is.
 fn spell_into(buffer: &mut Vec<u8>, turn: u8, table: &Table) -> usize
-    requires room { length buffer.old.items ≡ 1168 }
-    requires count { length (standing_of table.now).pairs ≤ 64 }
-    ensures room { length buffer.new.items ≡ 1168 }
+    requires room { length buffer.old.items ≡ SLOT }
+    requires count { length (standing_of table.now).pairs ≤ LIMIT }
+    ensures room { length buffer.new.items ≡ SLOT }
     ensures least { 16 ≤ result }
-    ensures most { result ≤ 1168 }
+    ensures most { result ≤ SLOT }
     ensures fits { (standing_of table.now).preserve ≡ true → AreInFields
         (standing_of table.now).pairs }
     ensures bytes { take result buffer.new.items ≡ spelled_slot turn (kept (standing_of table.now)) }
@@ -94,7 +94,7 @@ impl<D: Disk> Keeper<D> {
     ///
     /// Where the disk has failed. Until a save that succeeds, a power loss may leave either.
     pub fn save(&mut self, table: &Table) -> Result<(), Failed>
-        requires formed { IsWellFormed 64 (standing_of table.now) }
+        requires formed { IsWellFormed LIMIT (standing_of table.now) }
         requires ports { HavePorts (standing_of table.now).pairs }
         ensures saves { (ks : List Kept) → StandsFor self.old ks
             → Saves self.old self.new ks (kept (standing_of table.now)) result }
@@ -105,7 +105,7 @@ impl<D: Disk> Keeper<D> {
             result }
     {
         self.in_doubt = true;
-        let gate = self.aim.gate(&FILE);
+        let gate = self.aim.gate(&FILE_LAYOUT);
         close(&mut self.disk, gate, &mut self.aim.may_be_open)?;
         let turn = self.aim.next_turn();
         let len = spell_into(&mut self.buffer, turn, table);

@@ -7,24 +7,24 @@ ghost use Rattle.pr_io.specs.Images.{Image, Stays, Reads};
 ghost use Rattle.pr_aptpl.specs.Doubts.{IsKeepable};
 ghost use Rattle.pr_aptpl.specs.Views.{slot_of, IsSound};
 ghost use Rattle.pr_aptpl.specs.Opens.{IsFaultOf, IsNotBad, Joins, HeadSays, OpensAt, FailsAt, first_diff};
+ghost use Rattle.pr_aptpl.specs.declared.opening.TheConstants.{EQUAL_TURNS, SLOT};
 
 use crate::OpenFault;
 use crate::aim::Aim;
 use crate::reading::{Slot, read_slot};
-use pr_grammar::FileLayout;
+use pr_grammar::FILE_LAYOUT;
 use pr_io::{Disk, FRESH_HEAD, Failed};
 use pr_table::Kept;
+use pr_words::LIMIT;
 use std::alloc::Global;
 
-/// Where the slots of the file stand.
-pub(crate) const FILE: FileLayout = FileLayout {
-    slot0: 4096,
-    slot1: 8192,
-    limit: 64,
-};
+/// The bytes of a slot: its fields, and as many registrations as there may be.
+pub(crate) const SLOT: usize = 1_168;
 
-/// The place of a fault where both slots are open and have one turn.
-const EQUAL_TURNS: u64 = 8193;
+const _: () = prove!(SLOT == 16 + 18 * LIMIT);
+
+/// The place of a fault where both slots are open and have one turn: that of the second one's.
+const EQUAL_TURNS: u64 = FILE_LAYOUT.slot1 + 1;
 
 /// The place of the first byte that isn't the one that it has to be.
 fn first_difference(right: &[u8], head: &[u8]) -> Option<u64>
@@ -77,12 +77,12 @@ fn read_part<D: Disk>(
     buffer: &mut Vec<u8>,
     at: u64,
 ) -> Result<Slot, OpenFault>
-    requires room { length buffer.old.items ≡ 1168 }
-    requires place { at + 1168 ≤ disk_size }
+    requires room { length buffer.old.items ≡ SLOT }
+    requires place { at + SLOT ≤ disk_size }
     ensures slot { IfOk result (λ s. (image : Image) → (D.story disk.old).now ≡ Some image
-        → slot_of s ≡ slot 64 at (cut image at 1168)) }
+        → slot_of s ≡ slot LIMIT at (cut image at SLOT)) }
     ensures sound { IfOk result (λ s. IsSound (slot_of s)) }
-    ensures room { length buffer.new.items ≡ 1168 }
+    ensures room { length buffer.new.items ≡ SLOT }
     ensures stays { Stays (D.story disk.old) (D.story disk.new) }
     ensures reference { D.reference disk.new ≡ D.reference disk.old }
     ensures calm { IfOk result (λ _. D.faults disk.new ≡ D.faults disk.old) }
@@ -91,7 +91,7 @@ fn read_part<D: Disk>(
 {
     match read_into(disk, buffer, at) {
         Err(_) => Err(OpenFault::DiskFault),
-        Ok(()) => match read_slot(alloc, buffer, at, FILE.limit) {
+        Ok(()) => match read_slot(alloc, buffer, at, FILE_LAYOUT.limit) {
             Ok(slot) => Ok(slot),
             Err(_) => Err(OpenFault::OutOfMemory),
         },
@@ -120,7 +120,7 @@ fn aim(target: bool, turn: Option<u8>, may_be_open: bool) -> Aim
 
 /// What the slots give where the first one is closed.
 fn join_closed(alloc: Global, second: Slot) -> Result<(Aim, Kept), u64>
-    ensures joins { Joins 8193 result Closed (slot_of second) }
+    ensures joins { Joins EQUAL_TURNS result Closed (slot_of second) }
     ensures sound { IsSound (slot_of second) → IfOk result (λ r. IsKeepable r.1) }
 {
     match second {
@@ -132,7 +132,7 @@ fn join_closed(alloc: Global, second: Slot) -> Result<(Aim, Kept), u64>
 
 /// What the slots give where the first one is open.
 fn join_open(turn: u8, kept: Kept, second: Slot) -> Result<(Aim, Kept), u64>
-    ensures joins { Joins 8193 result (Open turn kept) (slot_of second) }
+    ensures joins { Joins EQUAL_TURNS result (Open turn kept) (slot_of second) }
     ensures sound { IsKeepable kept → IsSound (slot_of second) → IfOk result
         (λ r. IsKeepable r.1) }
 {
@@ -156,7 +156,7 @@ fn join_open(turn: u8, kept: Kept, second: Slot) -> Result<(Aim, Kept), u64>
 
 /// Which slot is current, and what it holds.
 fn join(alloc: Global, first: Slot, second: Slot) -> Result<(Aim, Kept), u64>
-    ensures joins { Joins 8193 result (slot_of first) (slot_of second) }
+    ensures joins { Joins EQUAL_TURNS result (slot_of first) (slot_of second) }
     ensures sound { IsSound (slot_of first) → IsSound (slot_of second)
         → IfOk result (λ r. IsKeepable r.1) }
 {
@@ -173,23 +173,23 @@ fn read_slots<D: Disk>(
     disk: &mut D,
     buffer: &mut Vec<u8>,
 ) -> Result<(Slot, Slot), OpenFault>
-    requires room { length buffer.old.items ≡ 1168 }
+    requires room { length buffer.old.items ≡ SLOT }
     ensures slots { IfOk result (λ r. (image : Image) → (D.story disk.old).now ≡ Some image
-        → (slot_of r.0 ≡ slot 64 4096 (cut image 4096 1168))
-        × (slot_of r.1 ≡ slot 64 8192 (cut image 8192 1168))) }
+        → (slot_of r.0 ≡ slot LIMIT file_layout.slot0 (cut image file_layout.slot0 SLOT))
+        × (slot_of r.1 ≡ slot LIMIT file_layout.slot1 (cut image file_layout.slot1 SLOT))) }
     ensures sound { IfOk result (λ r. IsSound (slot_of r.0) × IsSound (slot_of r.1)) }
-    ensures room { length buffer.new.items ≡ 1168 }
+    ensures room { length buffer.new.items ≡ SLOT }
     ensures stays { Stays (D.story disk.old) (D.story disk.new) }
     ensures reference { D.reference disk.new ≡ D.reference disk.old }
     ensures calm { IfOk result (λ _. D.faults disk.new ≡ D.faults disk.old) }
     ensures fault { IfErr result (λ e. IsFaultOf e (D.faults disk.old) (D.faults disk.new)
         × IsNotBad e) }
 {
-    let first = match read_part(alloc, disk, buffer, FILE.slot0) {
+    let first = match read_part(alloc, disk, buffer, FILE_LAYOUT.slot0) {
         Ok(first) => first,
         Err(fault) => return Err(fault),
     };
-    match read_part(alloc, disk, buffer, FILE.slot1) {
+    match read_part(alloc, disk, buffer, FILE_LAYOUT.slot1) {
         Ok(second) => Ok((first, second)),
         Err(fault) => Err(fault),
     }
@@ -201,12 +201,12 @@ pub(crate) fn open_file<D: Disk>(
     disk: &mut D,
     buffer: &mut Vec<u8>,
 ) -> Result<(Aim, Kept), OpenFault>
-    requires room { length buffer.old.items ≡ 1168 }
+    requires room { length buffer.old.items ≡ SLOT }
     ensures opens { IfOk result (λ r. OpensAt file_head file_layout (D.story disk.old)
         (D.story disk.new) r.0 r.1) }
     ensures sound { IfOk result (λ r. IsKeepable r.1) }
     ensures fails { IfErr result (λ e. FailsAt file_head file_layout e (D.story disk.old)) }
-    ensures room { length buffer.new.items ≡ 1168 }
+    ensures room { length buffer.new.items ≡ SLOT }
     ensures stays { Stays (D.story disk.old) (D.story disk.new) }
     ensures reference { D.reference disk.new ≡ D.reference disk.old }
     ensures calm { IfOk result (λ _. D.faults disk.new ≡ D.faults disk.old) }

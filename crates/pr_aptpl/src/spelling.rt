@@ -1,9 +1,11 @@
 ghost use Rattle.std.specs.Prelude.{◌≡◌, ◌≤◌, ◌<◌, ◌+◌, ◌*◌, ◌^◌, ◌++◌, true, length, take};
 ghost use Rattle.std.specs.List.{flat_map};
+ghost use Rattle.pr_words.specs.declared.limits.TheConstants.{LIMIT};
 ghost use Rattle.pr_grammar.specs.Files.{spelled_pair, spelled_fields, spelled_slot, type_code, place_in, holder_place};
 ghost use Rattle.pr_model.specs.Keeping.{kept};
 ghost use Rattle.pr_table.specs.Tables.{standing_of};
 ghost use Rattle.pr_aptpl.specs.Doubts.{AreInFields};
+ghost use Rattle.pr_aptpl.specs.declared.opening.TheConstants.{SLOT};
 
 use crate::parts::OPEN;
 use pr_param::Registrants;
@@ -71,7 +73,7 @@ fn place_of(table: &Table, nexus: Nexus) -> usize
 
 /// The holder's place among the registrations.
 fn holder_of(table: &Table, holder: Option<Nexus>) -> u16
-    requires { length (standing_of table.now).pairs ≤ 64 }
+    requires { length (standing_of table.now).pairs ≤ LIMIT }
     ensures { result ≡ holder_place holder (standing_of table.now).pairs }
 {
     match holder {
@@ -100,14 +102,14 @@ fn spell_pairs(buffer: &mut [u8], table: &Table) -> usize
 
 /// Spells an open slot with what a table keeps to the front of the buffer, and says how long it is.
 pub(crate) fn spell(buffer: &mut [u8], turn: u8, table: &Table) -> usize
-    requires room { 16 + 18 * 64 ≤ length buffer.old }
-    requires count { length (standing_of table.now).pairs ≤ 64 }
+    requires room { SLOT ≤ length buffer.old }
+    requires count { length (standing_of table.now).pairs ≤ LIMIT }
     ensures bytes { take result buffer.new ≡ spelled_slot turn (kept (standing_of table.now)) }
     ensures fits { (standing_of table.now).preserve ≡ true → AreInFields
         (standing_of table.now).pairs }
     ensures length { length buffer.new ≡ length buffer.old }
     ensures least { 16 ≤ result }
-    ensures most { result ≤ 16 + 18 * 64 }
+    ensures most { result ≤ SLOT }
 {
     if !table.preserve() {
         put_at(buffer, 0, &field_bytes(turn, 0, 0, 0, NO_PLACE));

@@ -6,6 +6,8 @@ use Rattle.pr_words.specs.declared.code.Code.{Code}
 use Rattle.pr_words.specs.declared.code.Status.TheVariants as status
 use Rattle.pr_words.specs.declared.task.Way.{Way}
 use Rattle.pr_words.specs.Services.{out_service_code}
+use Rattle.pr_words.specs.declared.code.TheConstants.Code.{LOGICAL_UNIT_NOT_SUPPORTED}
+use Rattle.pr_words.specs.declared.limits.TheConstants.{LIMIT}
 use Rattle.pr_grammar.specs.declared.operation.OperationCode.{OperationCode}
 use Rattle.pr_grammar.specs.declared.cdb.Command.{Command}
 use Rattle.pr_grammar.specs.declared.cdb.Command.TheVariants as commands
@@ -13,13 +15,12 @@ use Rattle.pr_grammar.specs.declared.cdb.Command.TheVariants.{RequestSense, Rese
 use Rattle.pr_grammar.specs.declared.param.OutList.{OutList}
 use Rattle.pr_grammar.specs.Operations.{operation_at, class_of}
 use Rattle.pr_grammar.specs.Cdbs.{operation_code, command_by, command_in, command_of}
-use Rattle.pr_model.specs.Limits.{LIMIT}
 use Rattle.pr_model.specs.Acts.{acted}
 use Rattle.pr_model.specs.Conflicts.{is_forbidden}
 use Rattle.pr_model.specs.Worlds.{World, Task, set_at}
 use Rattle.pr_model.specs.Tasks.{new_task}
 use Rattle.pr_model.specs.Entries.{entry, Out, Started, Command as Commands}
-use Rattle.pr_model.specs.Commands.{Answer, answer, good, checking, conflict, begin, is_elsewhere, conflict_where, unsupported_unit, conflict_checks, form_checks, command_checks, checks, first_or, served, sense_data, answered, reserve_out}
+use Rattle.pr_model.specs.Commands.{Answer, answer, good, checking, conflict, begin, is_elsewhere, conflict_where, conflict_checks, form_checks, command_checks, checks, first_or, served, sense_data, answered, reserve_out}
 use Rattle.pr_model.specs.Histories.{failures_by}
 use Rattle.pr_io.specs.declared.outside.Disk as disks
 use Rattle.pr_aptpl.specs.declared.keeper.Keeper.{Keeper}
@@ -40,7 +41,7 @@ use Rattle.pr_core.proofs.Settled.{ends_still, counts_still}
 
 -- the checks of the unit and of the operation code
 
-pub unit_elsewhere : (s : State) (n : Nexus) (lun op : ℕ) → is_elsewhere lun op ≡ true → PassesUnit s s n lun op (Err unsupported_unit)
+pub unit_elsewhere : (s : State) (n : Nexus) (lun op : ℕ) → is_elsewhere lun op ≡ true → PassesUnit s s n lun op (Err LOGICAL_UNIT_NOT_SUPPORTED)
 unit_elsewhere s n lun op there = ((lit< tt, lit< tt), λ w depicts. (w, depicts, refl, λ last. rw there refl))
 
 pub unit_attention : (old new : State) (n : Nexus) (lun op : ℕ) (c : Code) → is_elsewhere lun op ≡ false → PassesAttention old new n op (Err c) → PassesUnit old new n lun op (Err c)

@@ -5,17 +5,18 @@ use Rattle.pr_words.specs.declared.service.OutService.{OutService}
 use Rattle.pr_words.specs.Services.{out_service_code}
 use Rattle.pr_words.specs.declared.code.Code.{Code}
 use Rattle.pr_words.specs.declared.task.Way.TheVariants as ways
+use Rattle.pr_words.specs.declared.code.TheConstants.Code.{INVALID_FIELD_IN_PARAMETER_LIST, PARAMETER_LIST_LENGTH_ERROR}
+use Rattle.pr_words.specs.declared.limits.TheConstants.{BLOCK, PARAMETER_LIST}
 use Rattle.pr_grammar.specs.declared.operation.OperationCode.{OperationCode}
 use Rattle.pr_grammar.specs.declared.cdb.Command.{Command}
 use Rattle.pr_grammar.specs.declared.cdb.Command.TheVariants.{Read, Write, ReserveOut}
-use Rattle.pr_grammar.specs.Pages.{block_length}
 use Rattle.pr_grammar.specs.Cdbs.{operation_code, command_by}
 use Rattle.pr_grammar.specs.declared.param.OutList.{OutList}
 use Rattle.pr_grammar.specs.declared.param.ParamFault.{ParamFault}
 use Rattle.pr_grammar.specs.declared.param.ParamFault.TheVariants.{Length}
 use Rattle.pr_grammar.specs.OutLists.{list_of, read_list}
 use Rattle.pr_model.specs.Worlds.{World}
-use Rattle.pr_model.specs.Commands.{Answer, answer, checking, refused_where, first_or, has_bad_service, has_bad_list, length_check, form_checks, command_checks, list_length_error, invalid_list}
+use Rattle.pr_model.specs.Commands.{Answer, answer, checking, refused_where, first_or, has_bad_service, has_bad_list, length_check, form_checks, command_checks}
 use Rattle.pr_core.specs.declared.admitted.Admitted.TheVariants as admitted
 use Rattle.pr_core.specs.declared.admitted.Admitted.{Admitted}
 use Rattle.pr_core.specs.Passing.{Pass, Give, Carries, FitsIn, HasData, PassesForm, PassesCommand, PassesCdb, PassesTransfer}
@@ -54,27 +55,27 @@ pub record ReadsList (action scope kind len : ℕ) (sent : List ℕ) (service : 
 -- the checks that are left
 past_length : (action scope kind len : ℕ) (sent : List ℕ) (service : OutService) (list : OutList) (w : World) (last : Answer) → ReadsList action scope kind len sent service list
     → first_or (command_checks w (ReserveOut action scope kind len) sent) last
-    ≡ first_or (refused_where (has_bad_list (out_service_code service) list) w invalid_list ∷ []) last
+    ≡ first_or (refused_where (has_bad_list (out_service_code service) list) w INVALID_FIELD_IN_PARAMETER_LIST ∷ []) last
 past_length action scope kind len sent service list w last r =
-    let parts = read_parts (length sent == 24) (Length (length sent)) list (list_of sent) r.read in
-    let long : (length sent == len) ≡ true = not_refused (length sent == len) (answer w (checking list_length_error)) (r.announced w) in
-    let whole : (len == 24) ≡ true = same_number (length sent) len 24 long parts.0 in
+    let parts = read_parts (length sent == PARAMETER_LIST) (Length (length sent)) list (list_of sent) r.read in
+    let long : (length sent == len) ≡ true = not_refused (length sent == len) (answer w (checking PARAMETER_LIST_LENGTH_ERROR)) (r.announced w) in
+    let whole : (len == PARAMETER_LIST) ≡ true = same_number (length sent) len PARAMETER_LIST long parts.0 in
     let fit : has_bad_service action scope kind ≡ false = subst (λ (a : ℕ). has_bad_service a scope kind ≡ false) r.named r.fit in
     rw (fit, long, whole, parts.1, r.named) refl
 
 pub list_passes : (blocks action scope kind len : ℕ) (sent : List ℕ) (service : OutService) (list : OutList) → ReadsList action scope kind len sent service list → has_bad_list (out_service_code service) list ≡ false
     → PassesCommand blocks (ReserveOut action scope kind len) sent (Ok (admitted.ReserveOut (record { service = service; scope = scope; kind = kind }) list))
 list_passes blocks action scope kind len sent service list r good = (
-  (len, ap (λ (a : ℕ). ReserveOut a scope kind len) (sym r.named), (read_parts (length sent == 24) (Length (length sent)) list (list_of sent) r.read).1),
+  (len, ap (λ (a : ℕ). ReserveOut a scope kind len) (sym r.named), (read_parts (length sent == PARAMETER_LIST) (Length (length sent)) list (list_of sent) r.read).1),
   tt,
   λ w count last. past_length action scope kind len sent service list w last r ∙ (rw good refl),
   tt,
 )
 
 pub list_fails : (blocks action scope kind len : ℕ) (sent : List ℕ) (service : OutService) (list : OutList) → ReadsList action scope kind len sent service list → has_bad_list (out_service_code service) list ≡ true
-    → PassesCommand blocks (ReserveOut action scope kind len) sent (Err invalid_list)
+    → PassesCommand blocks (ReserveOut action scope kind len) sent (Err INVALID_FIELD_IN_PARAMETER_LIST)
 list_fails blocks action scope kind len sent service list r bad =
-    ((lit< tt, lit< tt), λ w count last. past_length action scope kind len sent service list w last r ∙ ap (λ (b : Bool). first_or (refused_where b w invalid_list ∷ []) last) bad)
+    ((lit< tt, lit< tt), λ w count last. past_length action scope kind len sent service list w last r ∙ ap (λ (b : Bool). first_or (refused_where b w INVALID_FIELD_IN_PARAMETER_LIST ∷ []) last) bad)
 
 -- READ and WRITE
 pub read_passes : (blocks : ℕ) (wide : Bool) (protect lba count : ℕ) (sent : List ℕ) (r : Result Admitted Code) → PassesTransfer blocks ways.Read protect lba count 0 sent r → PassesCommand blocks (Read wide protect lba count) sent r
@@ -82,7 +83,7 @@ read_passes blocks wide protect lba count sent (Ok a) passes =
     (subst (λ (x : Admitted). Carries (Read wide protect lba count) sent x) (sym passes.0) refl, subst (FitsIn blocks) (sym passes.0) (passes.1, refl), passes.2, subst (HasData sent) (sym passes.0) passes.3)
 read_passes blocks wide protect lba count sent (Err c) fails = fails
 
-pub write_passes : (blocks : ℕ) (wide : Bool) (protect lba count : ℕ) (sent : List ℕ) (r : Result Admitted Code) → PassesTransfer blocks ways.Write protect lba count (block_length * count) sent r → PassesCommand blocks (Write wide protect lba count) sent r
+pub write_passes : (blocks : ℕ) (wide : Bool) (protect lba count : ℕ) (sent : List ℕ) (r : Result Admitted Code) → PassesTransfer blocks ways.Write protect lba count (BLOCK * count) sent r → PassesCommand blocks (Write wide protect lba count) sent r
 write_passes blocks wide protect lba count sent (Ok a) passes =
     (subst (λ (x : Admitted). Carries (Write wide protect lba count) sent x) (sym passes.0) refl, subst (FitsIn blocks) (sym passes.0) (passes.1, refl), passes.2, subst (HasData sent) (sym passes.0) passes.3)
 write_passes blocks wide protect lba count sent (Err c) fails = fails

@@ -7,19 +7,20 @@ use Rattle.pr_words.specs.declared.code.Code.{Code}
 use Rattle.pr_words.specs.declared.task.Way.{Way}
 use Rattle.pr_words.specs.declared.task.Way.TheVariants as ways
 use Rattle.pr_words.specs.Orders.{same_nexus}
+use Rattle.pr_words.specs.declared.code.TheConstants.Code.{LOGICAL_UNIT_NOT_SUPPORTED}
+use Rattle.pr_words.specs.declared.limits.TheConstants.{KNOWN, LIMIT}
 use Rattle.pr_grammar.specs.declared.cdb.Command.{Command}
 use Rattle.pr_grammar.specs.declared.cdb.Command.TheVariants as commands
 use Rattle.pr_grammar.specs.Standings.{is_registered, is_port}
 use Rattle.pr_grammar.specs.Cdbs.{operation_code, command_of}
 use Rattle.pr_grammar.specs.OutLists.{list_of}
-use Rattle.pr_model.specs.Limits.{KNOWN, LIMIT}
 use Rattle.pr_model.specs.Acts.{Acted, Verdict, Good, Conflict, Bad, acted}
 use Rattle.pr_model.specs.Attentions.{told}
 use Rattle.pr_model.specs.Worlds.{World, Task, set_at, is_known}
 use Rattle.pr_model.specs.Tasks.{new_task, aborted, marked}
 use Rattle.pr_model.specs.Entries as entries
 use Rattle.pr_model.specs.Entries.{Act, Out, Entry, History, Started}
-use Rattle.pr_model.specs.Commands.{Answer, answer, good, sense_data, unsupported_unit, by_verdict, out_request, hand_out, served, answered}
+use Rattle.pr_model.specs.Commands.{Answer, answer, good, sense_data, by_verdict, out_request, hand_out, served, answered}
 use Rattle.pr_model.specs.Saving.{is_unsaved, doubted, settled}
 use Rattle.pr_model.specs.Steps.{stepped_in}
 use Rattle.pr_model.specs.Histories.{MayEnd, moved_by, moved, after, IsLegalFrom, login_code, logged_in}
@@ -61,7 +62,7 @@ module _ (w : World) (m : Nexus) where
   hand_out_fits descriptor allocation [] = at_rest
   hand_out_fits descriptor allocation (c ∷ cs) = as_before w _ m refl refl
 
-  sense_fits : (descriptor : Bool) (allocation : ℕ) (here : Bool) → Fits (cond here (hand_out w m descriptor allocation (w.attentions m)) (answer w (good (take allocation (sense_data descriptor unsupported_unit)))))
+  sense_fits : (descriptor : Bool) (allocation : ℕ) (here : Bool) → Fits (cond here (hand_out w m descriptor allocation (w.attentions m)) (answer w (good (take allocation (sense_data descriptor LOGICAL_UNIT_NOT_SUPPORTED)))))
   sense_fits descriptor allocation true = hand_out_fits descriptor allocation (w.attentions m)
   sense_fits descriptor allocation false = at_rest
 

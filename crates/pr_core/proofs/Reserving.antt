@@ -6,9 +6,10 @@ use Rattle.pr_words.specs.declared.nexus.Pair.{Pair}
 use Rattle.pr_words.specs.declared.code.Code.{Code}
 use Rattle.pr_words.specs.declared.code.Status.TheVariants as status
 use Rattle.pr_words.specs.Orders.{same_nexus}
+use Rattle.pr_words.specs.declared.code.TheConstants.Code.{INTERNAL_TARGET_FAILURE}
+use Rattle.pr_words.specs.declared.limits.TheConstants.{LIMIT}
 use Rattle.pr_grammar.specs.Standings.{Standing, is_registered}
 use Rattle.pr_grammar.specs.declared.param.OutList.{OutList}
-use Rattle.pr_model.specs.Limits.{LIMIT}
 use Rattle.pr_model.specs.Acts.{Acted, Verdict as Verdicts, Good, Conflict, Bad, ReserveOut, acted}
 use Rattle.pr_model.specs.Attentions.{with_code, raised_any, is_other, told}
 use Rattle.pr_model.specs.Worlds.{World, Task}
@@ -19,7 +20,6 @@ use Rattle.pr_model.proofs.Orders.{same_is}
 use Rattle.pr_model.proofs.Reaching.{acted_knows, acted_reaches}
 use Rattle.pr_io.specs.declared.outside.Disk as disks
 use Rattle.pr_model.specs.Keeping.{kept, same_kept}
-use Rattle.pr_model.specs.Saving.{target_failure}
 use Rattle.pr_model.specs.Histories.{failures_by}
 use Rattle.pr_table.specs.declared.table.Table.{Table}
 use Rattle.pr_table.specs.Tables.{standing_of, limit_of}
@@ -40,7 +40,7 @@ use Rattle.pr_core.specs.Fitting.{Fits, AllFit}
 use Rattle.pr_core.specs.States.{world_with, Depicts, progress_in}
 use Rattle.pr_core.specs.Saves.{Holds, SavesTo, Counts}
 use Rattle.pr_core.specs.Admits.{Reserves}
-use Rattle.pr_core.proofs.Settled.{ends_still, ends_saved, ends_unsaved, counts_still, refusal_counts, lit_five}
+use Rattle.pr_core.proofs.Settled.{ends_still, ends_saved, ends_unsaved, counts_still, refusal_counts, illegal_request}
 
 -- the seat of a nexus is its own
 pub seat_in_is : (seats : List Seat) (m : Nexus) (s : Seat) → seat_in seats m ≡ Some s → s.nexus ≡ m
@@ -196,7 +196,7 @@ module _ {D : Type 0} {gd : disks.Ghosts D} where
         ends_still k new w w (reserve_out w n o.action (acted LIMIT w.standing n o)) (out_of result buf)
         (ap (λ (s : Standing). reserve_out w n o.action (acted LIMIT s n o)) (standing_in old w depicts) ∙ refused w n o.action (acted LIMIT (standing_of old.table) n o) c is ∙ ap (λ (x : Out). answer w x) (sym (out buf)))
         refl (same_depicts old new w standing blocks seats depicts) holds,
-    counts_still k result (λ buf. ap failures_by (out buf) ∙ refusal_counts c (lit_five c ((acted_reaches LIMIT (standing_of old.table) n o).refusal c is))),
+    counts_still k result (λ buf. ap failures_by (out buf) ∙ refusal_counts c (illegal_request c ((acted_reaches LIMIT (standing_of old.table) n o).refusal c is))),
   )
 
 tells_lists : (old new : State) (n : Nexus) (a : Acted) (k : List Nexus) → Tells (seat_of old.seats) (seat_of new.seats) n a → count_of new.seats ≡ count_of old.seats → Lists k old.seats → Lists k new.seats
@@ -243,7 +243,7 @@ module _ {D : Type 0} {gd : disks.Ghosts D} (before now : Keeper D gd) (old : St
   )
 
   pub reserves_unsaved : {T E : Type 0} (new : State) (r : Result T E) (e : E) (result : CommandOut) → standing_of new.table ≡ standing_of old.table → new.blocks ≡ old.blocks → new.seats ≡ old.seats
-      → (acted LIMIT (standing_of old.table) n o).verdict ≡ Good → r ≡ Err e → SavesAct r → Counts before now result → ((buf : List ℕ) → out_of result buf ≡ checking target_failure) → Reserves old new before now n o result
+      → (acted LIMIT (standing_of old.table) n o).verdict ≡ Good → r ≡ Err e → SavesAct r → Counts before now result → ((buf : List ℕ) → out_of result buf ≡ checking INTERNAL_TARGET_FAILURE) → Reserves old new before now n o result
   reserves_unsaved {T} {E} new r e result standing blocks seats is failed saves counts out = (
     λ w depicts holds buf.
         let v : World = next w n o.action (acted LIMIT (standing_of old.table) n o) in

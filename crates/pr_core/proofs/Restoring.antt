@@ -7,11 +7,11 @@ use Rattle.pr_words.specs.declared.nexus.Nexus.{Nexus}
 use Rattle.pr_words.specs.declared.nexus.Pair.{Pair}
 use Rattle.pr_words.specs.declared.code.Code.{Code}
 use Rattle.pr_words.specs.Orders.{same_nexus, comes_before}
+use Rattle.pr_words.specs.declared.code.TheConstants.Code.{POWER_ON}
+use Rattle.pr_words.specs.declared.limits.TheConstants.{LIMIT}
 use Rattle.pr_grammar.specs.Standings as standings
 use Rattle.pr_grammar.specs.Standings.{Standing, Kept, is_registered, is_port}
-use Rattle.pr_model.specs.Limits.{LIMIT}
 use Rattle.pr_model.specs.Registrants.{IsWellFormed}
-use Rattle.pr_model.specs.Attentions.{powered_on}
 use Rattle.pr_model.specs.Worlds.{Blocks, Task, opened, restored, is_known}
 use Rattle.pr_model.proofs.Came.{same_self}
 use Rattle.pr_model.proofs.Orders.{same_is}
@@ -80,7 +80,7 @@ after_some : (b : Bool) (n : Nexus) → is_some (cond b (Some (new_seat n)) None
 after_some true n = refl
 after_some false n = refl
 
-after_attentions : (b : Bool) (n : Nexus) → attentions_in (cond b (Some (new_seat n)) None) ≡ powered_on ∷ []
+after_attentions : (b : Bool) (n : Nexus) → attentions_in (cond b (Some (new_seat n)) None) ≡ POWER_ON ∷ []
 after_attentions true n = refl
 after_attentions false n = refl
 

@@ -12,7 +12,7 @@ use Rattle.pr_model.specs.Keeping.{Kept, is_empty}
 use Rattle.pr_model.specs.Worlds.{World}
 use Rattle.pr_model.specs.Entries.{Out}
 use Rattle.pr_model.specs.Commands.{Answer, answer, good, checking}
-use Rattle.pr_model.specs.Saving.{restorable, asks_to_save, target_failure, tells_failure, is_unsaved, doubted, settled}
+use Rattle.pr_model.specs.Saving.{restorable, asks_to_save, tells_failure, is_unsaved, doubted, settled}
 use Rattle.pr_model.specs.Histories.{failures_by}
 use Rattle.pr_model.specs.Stamps.{Restores}
 use Rattle.pr_model.proofs.Settling.{asks_nothing}
@@ -23,6 +23,8 @@ use Rattle.pr_aptpl.proofs.Saving.{restores_of}
 use Rattle.pr_core.specs.declared.answers.CommandOut.{CommandOut}
 use Rattle.pr_core.specs.declared.answers.CommandOut.TheVariants as outs
 use Rattle.pr_words.specs.declared.code.Status.TheVariants as status
+use Rattle.pr_words.specs.declared.code.TheConstants.Code.{INTERNAL_TARGET_FAILURE}
+use Rattle.pr_words.specs.declared.code.TheConstants.{ILLEGAL_REQUEST}
 use Rattle.pr_core.specs.declared.state.State.{State}
 use Rattle.pr_core.specs.Counting.{faults_after}
 use Rattle.pr_core.specs.Outs.{out_of}
@@ -38,8 +40,8 @@ not_four k more = grind (arith, nat_tests)
 pub refusal_counts : (c : Code) → IsRefusal c → failures_by (checking c) ≡ 0
 refusal_counts c refusal = rw (not_four c.key refusal.0) refl
 
-pub lit_five : (c : Code) → c.key ≡ 5 → IsRefusal c
-lit_five c five = (subst (λ (k : ℕ). 4 < k) (sym five) (lit< tt), subst (λ (k : ℕ). k < 16) (sym five) (lit< tt))
+pub illegal_request : (c : Code) → c.key ≡ ILLEGAL_REQUEST → IsRefusal c
+illegal_request c five = (subst (λ (k : ℕ). 4 < k) (sym five) (lit< tt), subst (λ (k : ℕ). k < 16) (sym five) (lit< tt))
 
 -- a story to which nothing happened
 pub still_goes : (s : Story) (P : Image → Type 0) → ((c : Image) → s.may s.moment c → P c) → Goes s s P
@@ -60,7 +62,7 @@ still_settles w v out same = by (is_unsaved w (answer v out) out) refl
     by true is = absurd (asks_nothing w (answer v out) same (and_parts (tells_failure out) (asks_to_save w (answer v out)) is).1)
     by false is = refl
 
-unsaved_is : (w : World) (a : Answer) → asks_to_save w a ≡ true → settled w a (checking target_failure) ≡ doubted w a
+unsaved_is : (w : World) (a : Answer) → asks_to_save w a ≡ true → settled w a (checking INTERNAL_TARGET_FAILURE) ≡ doubted w a
 unsaved_is w a asks = ap (λ (b : Bool). cond b (doubted w a) a.world) asks
 
 module _ {D : Type 0} {gd : disks.Ghosts D} where
@@ -94,7 +96,7 @@ module _ {D : Type 0} {gd : disks.Ghosts D} where
         leads = subst (Leads before now w) (sym there) leads;
       }
 
-  pub ends_unsaved : (before now : Keeper D gd) (new : State) (w v : World) (a : Answer) (out : Out) → a ≡ answer v (good []) → out ≡ checking target_failure → Depicts new (doubted w (answer v (good [])))
+  pub ends_unsaved : (before now : Keeper D gd) (new : State) (w v : World) (a : Answer) (out : Out) → a ≡ answer v (good []) → out ≡ checking INTERNAL_TARGET_FAILURE → Depicts new (doubted w (answer v (good [])))
       → Leads before now w (doubted w (answer v (good []))) → asks_to_save w (answer v (good [])) ≡ true → Ends before now new w a out
   ends_unsaved before now new w v a out is told depicts leads asks =
       let there : settled w a out ≡ doubted w (answer v (good [])) = ap (λ (x : Answer). settled w x out) is ∙ ap (settled w (answer v (good []))) told ∙ unsaved_is w (answer v (good [])) asks in
@@ -115,7 +117,7 @@ module _ {D : Type 0} {gd : disks.Ghosts D} where
     faults = λ buf. calm ∙ ap (λ (r : CommandOut). faults_after (failures_by (out_of r buf)) (gd.faults (disk_of before))) (sym told);
   }
 
-  pub counts_unsaved : (before now : Keeper D gd) (result : CommandOut) → gd.reference (disk_of now) ≡ gd.reference (disk_of before) → is_told now ≡ is_told before → gd.faults (disk_of now) ≡ next_fault (gd.faults (disk_of before)) → ((buf : List ℕ) → out_of result buf ≡ checking target_failure) → Counts before now result
+  pub counts_unsaved : (before now : Keeper D gd) (result : CommandOut) → gd.reference (disk_of now) ≡ gd.reference (disk_of before) → is_told now ≡ is_told before → gd.faults (disk_of now) ≡ next_fault (gd.faults (disk_of before)) → ((buf : List ℕ) → out_of result buf ≡ checking INTERNAL_TARGET_FAILURE) → Counts before now result
   counts_unsaved before now result reference tells once out = record {
     reference = reference;
     told = tells;

@@ -5,11 +5,12 @@ use Rattle.std.proofs.lemmas.Bool.Decides.{nat_tests}
 use Rattle.pr_words.specs.declared.nexus.Nexus.{Nexus}
 use Rattle.pr_words.specs.declared.code.Code.{Code}
 use Rattle.pr_words.specs.Orders.{same_nexus}
+use Rattle.pr_words.specs.declared.code.TheConstants.Code.{NO_SENSE}
 use Rattle.pr_grammar.specs.Standings.{Standing}
 use Rattle.pr_model.specs.Attentions.{is_attention}
 use Rattle.pr_model.specs.Worlds.{World, Task, set_at}
 use Rattle.pr_grammar.specs.Operations.{is_unconditional}
-use Rattle.pr_model.specs.Commands.{attention_check, hand_out, no_sense}
+use Rattle.pr_model.specs.Commands.{attention_check, hand_out}
 use Rattle.pr_model.proofs.Orders.{same_is}
 use Rattle.pr_table.specs.Tables.{standing_of}
 use Rattle.pr_core.specs.declared.seats.Seat.{Seat}
@@ -174,7 +175,7 @@ attention_passed_over s n op passes w depicts = (depicts, by (w.attentions n))
     by (c ∷ cs) = rw passes refl
 
 -- REQUEST SENSE on logical unit 0
-pub senses : (old new : State) (n : Nexus) (lun : ℕ) (first : Option Code) (c : Code) → Takes old new n → lun ≡ 0 → first ≡ slice_get (attentions_in (seat_of old.seats n)) 0 → IfSome first (λ a. is_attention a ≡ true) → c ≡ unwrap_or first no_sense
+pub senses : (old new : State) (n : Nexus) (lun : ℕ) (first : Option Code) (c : Code) → Takes old new n → lun ≡ 0 → first ≡ slice_get (attentions_in (seat_of old.seats n)) 0 → IfSome first (λ a. is_attention a ≡ true) → c ≡ unwrap_or first NO_SENSE
     → Senses old new n lun c
 senses old new n lun None c takes here first known is =
     let quiet : attentions_in (seat_of old.seats n) ≡ [] = none_first _ first in (

@@ -8,8 +8,8 @@ use std.Path.{fun_ext}
 use Rattle.pr_words.specs.declared.nexus.Nexus.{Nexus}
 use Rattle.pr_words.specs.declared.code.Code.{Code}
 use Rattle.pr_words.specs.Orders.{same_nexus}
+use Rattle.pr_words.specs.declared.limits.TheConstants.{KNOWN}
 use Rattle.pr_grammar.specs.Standings.{Standing}
-use Rattle.pr_model.specs.Limits.{KNOWN}
 use Rattle.pr_model.specs.Worlds.{World, Task, set_at, is_known}
 use Rattle.pr_model.specs.Histories as moves
 use Rattle.pr_model.specs.Histories.{with_known, is_port, login_code}

@@ -3,11 +3,11 @@ use Rattle.std.specs.Prelude.{◌≡◌, ℕ, ◌<◌, ◌++◌, Bool, List, tak
 use Rattle.pr_words.specs.declared.nexus.Nexus.{Nexus}
 use Rattle.pr_words.specs.declared.code.Code.{Code}
 use Rattle.pr_words.specs.declared.code.Status.TheVariants as status
+use Rattle.pr_words.specs.declared.limits.TheConstants.{LIMIT}
 use Rattle.pr_io.specs.declared.outside.Disk as disks
 use Rattle.pr_grammar.specs.declared.operation.OperationCode.{OperationCode}
 use Rattle.pr_grammar.specs.declared.cdb.Command.{Command}
 use Rattle.pr_grammar.specs.Operations.{operation_at}
-use Rattle.pr_model.specs.Limits.{LIMIT}
 use Rattle.pr_table.specs.Told.{requested}
 use Rattle.pr_aptpl.specs.declared.keeper.Keeper.{Keeper}
 use Rattle.pr_model.specs.Acts.{ReserveOut, acted}

@@ -1,6 +1,6 @@
 -- The acts and outcomes for which the entries of threads stand (this project's own).
 use Rattle.std.specs.Prelude.{take}
-use Rattle.pr_grammar.specs.Pages.{block_length}
+use Rattle.pr_words.specs.declared.limits.TheConstants.{BLOCK}
 use Rattle.pr_model.specs.Entries as entries
 use Rattle.pr_model.specs.Entries.{Act, Out}
 use Rattle.pr_core.specs.declared.deed.Deed.{Deed}
@@ -16,5 +16,5 @@ act_of Logout = entries.Logout
 abbrev pub outcome_of : Deed → Out
 outcome_of (Login version code) = entries.Login_code code
 outcome_of (Command lun cdb cdb_len sent sent_len out left) = out_of out left
-outcome_of (Step sent sent_len out left) = step_out out (take block_length left)
+outcome_of (Step sent sent_len out left) = step_out out (take BLOCK left)
 outcome_of Logout = entries.Left

@@ -5,9 +5,9 @@ use Rattle.pr_words.specs.declared.nexus.Nexus.{Nexus}
 use Rattle.pr_words.specs.declared.nexus.Pair.{Pair}
 use Rattle.pr_words.specs.declared.reservation.Reservation.{Reservation}
 use Rattle.pr_words.specs.declared.reservation.Reservation.TheVariants.{Free, OfOne, OfAll}
+use Rattle.pr_words.specs.declared.limits.TheConstants.{TRANSFER}
 use Rattle.pr_grammar.specs.Standings.{Standing, is_port}
 use Rattle.pr_model.specs.Registrants.{IsHeldIn, IsSound}
-use Rattle.pr_model.specs.Limits.{TRANSFER}
 use Rattle.pr_model.specs.Worlds.{Task}
 use Rattle.pr_core.specs.declared.seats.Seat.{Seat}
 use Rattle.pr_core.specs.Seats.{owner_in, task_in}

@@ -4,7 +4,7 @@ use Rattle.pr_words.specs.declared.code.Sense.{Sense}
 use Rattle.pr_words.specs.declared.code.Status.{Status}
 use Rattle.pr_words.specs.declared.code.Status.TheVariants as status
 use Rattle.pr_words.specs.declared.task.Way.TheVariants as ways
-use Rattle.pr_model.specs.Limits.{TRANSFER}
+use Rattle.pr_words.specs.declared.limits.TheConstants.{TRANSFER, DATA}
 use Rattle.pr_model.specs.Entries.{Out, Ended, Started, Wrote, Read, Done, Aborted, Fault}
 use Rattle.pr_tasks.specs.declared.step_out.StepOut.{StepOut}
 use Rattle.pr_tasks.specs.declared.step_out.StepOut.TheVariants as steps
@@ -18,9 +18,9 @@ abbrev pub out_of : CommandOut → List ℕ → Out
 out_of (outs.Ended s sense len) buf = Ended s sense (take len buf)
 out_of (outs.Started way count) buf = Started way
 
--- sense, whose key has four bits, comes with CHECK CONDITION alone, and data-in, of at most 524,288 bytes, with GOOD alone
+-- sense, whose key has four bits, comes with CHECK CONDITION alone, and data-in, of at most so many bytes as a command moves, with GOOD alone
 abbrev pub IsProperly : Status → Option Sense → ℕ → Type 0
-IsProperly status.Good None len = len ≤ 524288
+IsProperly status.Good None len = len ≤ DATA
 IsProperly status.CheckCondition (Some s) len = (len ≡ 0) × (s.code.key < 16)
 IsProperly status.ReservationConflict None len = len ≡ 0
 IsProperly status.TaskAborted None len = len ≡ 0

@@ -2,7 +2,7 @@
 use Rattle.std.specs.Prelude.{◌≡◌, ℕ, List, [], ◌∷◌, length, Option, Some, None, is_some, drop, vec_len}
 use Rattle.pr_words.specs.declared.nexus.Nexus.{Nexus}
 use Rattle.pr_words.specs.declared.code.Code.{Code}
-use Rattle.pr_model.specs.Attentions.{powered_on}
+use Rattle.pr_words.specs.declared.code.TheConstants.Code.{POWER_ON}
 use Rattle.pr_model.specs.Worlds.{Task, is_known}
 use Rattle.pr_core.specs.declared.seats.Seat.{Seat}
 use Rattle.pr_core.specs.declared.seats.Seats.{Seats}
@@ -19,7 +19,7 @@ count_of seats = vec_len seats.items
 
 -- a nexus that isn't known has the attention of the power-up
 abbrev pub attentions_in : Option Seat → List Code
-attentions_in None = powered_on ∷ []
+attentions_in None = POWER_ON ∷ []
 attentions_in (Some s) = s.attentions
 
 abbrev pub owner_in : Option Seat → Option ℕ
@@ -32,12 +32,12 @@ task_in (Some s) = s.task
 
 -- the seat of a nexus that the power-up made known
 abbrev pub new_seat : Nexus → Seat
-new_seat n = record { nexus = n; owner = None; attentions = powered_on ∷ []; task = None }
+new_seat n = record { nexus = n; owner = None; attentions = POWER_ON ∷ []; task = None }
 
 -- the seat after a login, a logout, and where its first attention was taken
 
 abbrev pub logged_in : ℕ → Nexus → Option Seat → Seat
-logged_in who n None = record { nexus = n; owner = Some who; attentions = powered_on ∷ []; task = None }
+logged_in who n None = record { nexus = n; owner = Some who; attentions = POWER_ON ∷ []; task = None }
 logged_in who n (Some s) = record { nexus = s.nexus; owner = Some who; attentions = s.attentions; task = s.task }
 
 abbrev pub logged_out : Seat → Seat

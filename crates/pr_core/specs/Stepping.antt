@@ -1,7 +1,7 @@
 -- What a step of a task did to the medium and to its block.
 use Rattle.std.specs.Prelude.{◌≡◌, ◌⊎◌, ℕ, ◌+◌, ◌≤◌, Bool, true, false, List, length, Option, Some, None}
 use Rattle.pr_words.specs.declared.task.Way.TheVariants as ways
-use Rattle.pr_grammar.specs.Pages.{block_length}
+use Rattle.pr_words.specs.declared.limits.TheConstants.{BLOCK}
 use Rattle.pr_model.specs.Worlds.{Task}
 use Rattle.pr_model.specs.Tasks.{IsUnderWay, next_block, advanced}
 use Rattle.pr_io.specs.Causes.{HasCause}
@@ -40,8 +40,8 @@ pub record Did (t : Task) (out : StepOut) (before after : Option (ℕ → List �
   pub reads : IsUnderWay t → t.way ≡ ways.Read → ReadsBlock before (next_block t) (answered out) left
   pub held : t.way ≡ ways.Read → after ≡ before
   pub idle : (t.aborted ≡ true) ⊎ (t.done ≡ t.count) → after ≡ before
-  pub given_long : length given ≡ block_length
-  pub left_long : length left ≡ block_length
+  pub given_long : length given ≡ BLOCK
+  pub left_long : length left ≡ BLOCK
   pub kept : LeavesBlock out given left
 
 -- the medium has as many blocks as before, is the same one, and has failed as often, but once more in a step that failed

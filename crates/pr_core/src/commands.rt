@@ -3,6 +3,7 @@
 ghost use Rattle.std.specs.Prelude.{◌≡◌, ◌<◌, ◌≤◌, ℕ, List, [], Some, None, is_some, true, not, length, take, IfOk};
 ghost use Rattle.pr_io.specs.Causes.{HasCause};
 ghost use Rattle.pr_words.specs.Services.{in_service_code};
+ghost use Rattle.pr_words.specs.declared.limits.TheConstants.{DATA, LIMIT};
 ghost use Rattle.pr_grammar.specs.Operations.{operation_at, class_of};
 ghost use Rattle.pr_model.specs.Conflicts.{is_forbidden, role_of};
 ghost use Rattle.pr_model.specs.Tasks.{new_task};
@@ -42,7 +43,7 @@ use pr_words::{Code, InService, Nexus, Role};
 ///
 /// Where the disk has failed.
 fn save<D: Disk>(keeper: &mut Keeper<D>, table: &Table, keeps: bool) -> Result<(), Failed>
-    requires formed { IsWellFormed 64 (standing_of table.now) }
+    requires formed { IsWellFormed LIMIT (standing_of table.now) }
     requires ports { HavePorts (standing_of table.now).pairs }
     ensures saves { (w v : World) → Holds keeper.old w
         → kept v.standing ≡ kept (standing_of table.now) → v.doubts ≡ []
@@ -77,7 +78,7 @@ impl State {
         requires owned { is_some (owner_at self.old nexus) ≡ true }
         requires idle { progress_at self.old nexus ≡ None }
         requires cdb { 0 < length cdb.now }
-        requires room { 524288 ≤ length buf.old }
+        requires room { DATA ≤ length buf.old }
         requires sent { out_len ≤ length buf.old }
         ensures enters { (who : ℕ) → owner_at self.old nexus ≡ Some who
             → EntersSaving self.old self.new keeper.old keeper.new (entry who nexus
@@ -181,7 +182,7 @@ impl State {
         requires owned { is_some (owner_at self.old nexus) ≡ true }
         requires idle { progress_at self.old nexus ≡ None }
         requires fits { FitsIn self.old.blocks admitted }
-        requires room { 524288 ≤ length buf.old }
+        requires room { DATA ≤ length buf.old }
         ensures serves { Serves self.old self.new keeper.old keeper.new nexus lun admitted result
             buf.new }
         ensures begun { IsBegun admitted result }
@@ -266,8 +267,8 @@ impl State {
 
     /// Writes the data of a PERSISTENT RESERVE IN, and says how long it is.
     fn write_reply(&self, service: InService, allocation: u16, buf: &mut [u8]) -> usize
-        requires { 524288 ≤ length buf.old }
-        ensures within { result ≤ 524288 }
+        requires { DATA ≤ length buf.old }
+        ensures within { result ≤ DATA }
         ensures bytes { take result buf.new ≡ take allocation
             (reserve_in_data (in_service_code service) (standing_of self.now.table)) }
     {

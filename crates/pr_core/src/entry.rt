@@ -1,7 +1,7 @@
 //! Entries of a history, as a thread hands them on.
 
 ghost use Rattle.std.specs.Prelude.{◌≡◌, ◌<◌, ◌≤◌, take, length};
-ghost use Rattle.pr_grammar.specs.Pages.{block_length};
+ghost use Rattle.pr_words.specs.declared.limits.TheConstants.{BLOCK};
 ghost use Rattle.pr_model.specs.Entries as entries;
 ghost use Rattle.pr_core.specs.Outs.{out_of, step_out};
 
@@ -88,7 +88,7 @@ impl Entry {
         left: Excerpt,
     ) -> Entry
         ensures { result ≡ entries.entry who nexus (entries.Step (take sent_len sent))
-            (step_out out (take block_length left)) }
+            (step_out out (take BLOCK left)) }
     {
         Entry {
             who,

@@ -1,6 +1,6 @@
 ghost use Rattle.std.specs.Prelude.{◌≡◌, ◌⊎◌, ◌+◌, ◌<◌, ◌≤◌, true, not, nat_lt, Some, None, is_some, IfOk, IfSome, option_map, map, slice_get, length, vec_len, vec_capacity, if◌then◌else◌};
 ghost use Rattle.pr_words.specs.declared.nexus.Nexus.{Nexus};
-ghost use Rattle.pr_model.specs.Limits.{KNOWN};
+ghost use Rattle.pr_words.specs.declared.limits.TheConstants.{KNOWN};
 ghost use Rattle.pr_model.specs.Worlds.{set_at};
 ghost use Rattle.pr_model.specs.Attentions.{is_attention};
 ghost use Rattle.pr_table.specs.Tables.{standing_of, removed_of};
@@ -13,11 +13,8 @@ use pr_param::Registrants;
 use pr_rules::Attentions;
 use pr_table::{Change, Table};
 use pr_tasks::{StepOut, Task};
-use pr_words::{Code, Nexus, is_same, stands_before};
+use pr_words::{Code, KNOWN, Nexus, is_same, stands_before};
 use std::alloc::{AllocError, Global};
-
-/// How many nexuses can be known.
-const MOST: usize = 256;
 
 /// A nexus that is known.
 #[derive(Drop)]
@@ -64,7 +61,7 @@ impl Seats {
         ensures order { IfOk result (λ s. IsAscending s.items) }
         ensures room { IfOk result (λ s. KNOWN ≤ vec_capacity s) }
     {
-        let mut seats = Vec::with_capacity(alloc, MOST)?;
+        let mut seats = Vec::with_capacity(alloc, KNOWN)?;
         while seats.len() < table.count() {
             let (nexus, _) = table.at(seats.len());
             seats.push(Seat::new(nexus))?;
@@ -83,7 +80,7 @@ impl Seats {
     pub fn is_full(&self) -> bool
         ensures { result ≡ not (nat_lt (count_of self.now) KNOWN) }
     {
-        self.items.len() >= MOST
+        self.items.len() >= KNOWN
     }
 
     /// Whether a nexus is known.

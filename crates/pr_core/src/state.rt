@@ -1,7 +1,7 @@
 ghost use Rattle.std.specs.Prelude.{◌≡◌, ◌≤◌, ◌^◌, ℕ, Bool, List, Some, None, is_some, true, not, ◌==◌, length, IfOk, IsTrue, All};
 ghost use Rattle.pr_words.specs.declared.nexus.Nexus.{Nexus};
+ghost use Rattle.pr_words.specs.declared.limits.TheConstants.{LIMIT};
 ghost use Rattle.pr_grammar.specs.Standings.{is_registered};
-ghost use Rattle.pr_model.specs.Limits.{LIMIT};
 ghost use Rattle.pr_model.specs.Worlds.{Blocks, opened};
 ghost use Rattle.pr_model.specs.Registrants.{IsAscending, IsSound};
 ghost use Rattle.pr_model.specs.Entries.{entry, Login, Logout, Step, Login_code, Left};
@@ -15,11 +15,8 @@ use crate::seats::Seats;
 use pr_io::Medium;
 use pr_table::{Kept, Table};
 use pr_tasks::StepOut;
-use pr_words::Nexus;
+use pr_words::{LIMIT, Nexus};
 use std::alloc::{AllocError, Global};
-
-/// How many nexuses can be registered.
-const REGISTRATIONS: usize = 64;
 
 /// What the target knows: registrations, reservation, nexuses and their tasks, over a medium of so
 /// many blocks. Each registered nexus is known, and each that has a task is logged in. All memory
@@ -59,8 +56,8 @@ impl State {
             → Depicts s (opened m tells kept.now)) }
         ensures blocks { IfOk result (λ s. s.blocks ≡ blocks) }
     {
-        let table = Table::from_kept(alloc, kept, REGISTRATIONS)?;
-        let spare = Table::new(alloc, REGISTRATIONS)?;
+        let table = Table::from_kept(alloc, kept, LIMIT)?;
+        let spare = Table::new(alloc, LIMIT)?;
         let seats = Seats::known(alloc, &table)?;
         Ok(State {
             table,

@@ -3,6 +3,7 @@ ghost use Rattle.pr_model.specs.Worlds.{Blocks, World, opened};
 ghost use Rattle.pr_model.specs.Keeping.{Kept as Kepts};
 ghost use Rattle.pr_grammar.specs.Files.{file_head, file_layout};
 ghost use Rattle.pr_io.specs.Images.{Stays};
+ghost use Rattle.pr_words.specs.declared.limits.TheConstants.{DATA};
 ghost use Rattle.pr_aptpl.specs.Opens.{FailsAt, IsFaultOf};
 ghost use Rattle.pr_aptpl.specs.Doubts.{IsKeepable};
 ghost use Rattle.pr_aptpl.specs.Keepers as keepers;
@@ -208,7 +209,7 @@ impl<M: Medium, D: Disk> Core<M, D> {
         requires owner { owner_of self.old nexus ≡ Some who }
         requires idle { progress_of self.old nexus ≡ None }
         requires cdb { (0 < length cdb.now) × (length cdb.now ≤ 16) }
-        requires room { 524288 ≤ length buf.old }
+        requires room { DATA ≤ length buf.old }
         requires sent { out_len ≤ length buf.old }
         ensures entry { Extends self.old self.new
             (entry who nexus (Command lun cdb.now (take out_len buf.old)) (out_of result buf.new)

@@ -9,6 +9,7 @@ use Rattle.pr_fence.specs.declared.plan.Errand.{Errand}
 use Rattle.pr_fence.specs.declared.plan.Errand.TheVariants as errand
 use Rattle.pr_fence.specs.declared.words.Refusal.{Refusal}
 use Rattle.pr_fence.specs.declared.words.Refusal.TheVariants.{BadWords, SelfFence}
+use Rattle.pr_fence.specs.declared.words.TheConstants.{ADDRESSES}
 use Rattle.pr_fence.specs.declared.words.Task.{Task}
 use Rattle.pr_fence.specs.declared.words.Task.TheVariants as task
 use Rattle.pr_fence.specs.declared.words.Verb.{Verb}
@@ -87,7 +88,7 @@ task_in verb.Off words = taken (value_in (codes "--plug") words) (λ plug rest. 
 task_in verb.Status words = taken (value_in (codes "--plug") words) (λ plug rest. task_by task.Status (node_in plug) rest)
 
 abbrev pub few : Bool → List Text → Option (Bool × List Text)
-few aptpl addresses = if nat_le 1 (length addresses) && nat_le (length addresses) 64 then Some (aptpl, addresses) else None
+few aptpl addresses = if nat_le 1 (length addresses) && nat_le (length addresses) ADDRESSES then Some (aptpl, addresses) else None
 
 -- `--aptpl` or not, and the addresses
 abbrev pub end_in : List Text → Option (Bool × List Text)

@@ -7,6 +7,9 @@ use crate::plan::{Errand, Plan};
 use pr_numbers::{decimal_number, hex_number};
 use pr_words::Nexus;
 
+/// The most addresses that are named.
+pub(crate) const ADDRESSES: usize = 64;
+
 /// Why nothing is done.
 #[derive(Clone, Copy, Debug, PartialEq, Eq)]
 pub(crate) enum Refusal {
@@ -154,7 +157,7 @@ pub(crate) fn task_of<'a>(verb: Verb, words: &'a [&'a str]) -> Option<(Task, &'a
 fn few<'a>(aptpl: bool, addresses: &'a [&'a str]) -> Option<(bool, &'a [&'a str])>
     ensures { option_map ended_of result ≡ spec_few aptpl (texts_of addresses.now) }
 {
-    if 1 <= addresses.len() && addresses.len() <= 64 {
+    if 1 <= addresses.len() && addresses.len() <= ADDRESSES {
         return Some((aptpl, addresses));
     }
     None

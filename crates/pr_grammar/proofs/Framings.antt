@@ -7,6 +7,7 @@ use Rattle.std.proofs.lemmas.Bool.{le-ltb, lt-ltb, ltb-false, ltb-true, or_parts
 use Rattle.std.proofs.lemmas.List.{take-append-le, drop-append-le, length-append, length-take-le, length-drop, drop_all}
 use Rattle.pr_words.specs.Fields.{number32_at}
 use Rattle.pr_words.specs.declared.nexus.Side.{Side}
+use Rattle.pr_words.specs.declared.limits.TheConstants.{FRAME_LENGTH, HELD}
 use Rattle.pr_grammar.specs.Frames.{Frame, Front, Lacking, Broken, Whole, front, sized, checked, frame_size}
 use Rattle.pr_grammar.specs.Shows.{AreFrames, HasBroken, JustBroken, size_of_all}
 use Rattle.pr_grammar.proofs.Fronts.{grown, IsThere, checked_more, checked_there}
@@ -14,7 +15,7 @@ use Rattle.pr_grammar.proofs.Spellings.{Found, found}
 
 -- where nothing lacks at the front, bytes that come behind don't change it
 
-sized_settled : (side : Side) (b : Bool) (xs ys : List ℕ) (len : ℕ) → (ltb len 8 || ltb 524316 len) ≡ b → 4 ≤ length xs → IsThere (sized side len xs) → sized side len (xs ++ ys) ≡ grown (sized side len xs) ys
+sized_settled : (side : Side) (b : Bool) (xs ys : List ℕ) (len : ℕ) → (ltb len 8 || ltb FRAME_LENGTH len) ≡ b → 4 ≤ length xs → IsThere (sized side len xs) → sized side len (xs ++ ys) ≡ grown (sized side len xs) ys
 sized_settled side true xs ys len is four there = rw is refl
 sized_settled side false xs ys len is four there =
     elim (cases_lt (length xs) (4 + len)) [
@@ -60,7 +61,7 @@ broken_more side xs ys r e = settled side xs ys (rw e tt) ∙ ap (λ (x : Front)
 abbrev Lacks : List ℕ → ℕ → Type 0
 Lacks xs k =
     ((length xs < 4) × (k ≡ 4 - length xs))
-    ⊎ ((4 ≤ length xs) × (8 ≤ number32_at xs 0) × (number32_at xs 0 ≤ 524316) × (length xs < 4 + number32_at xs 0) × (k ≡ 4 + number32_at xs 0 - length xs))
+    ⊎ ((4 ≤ length xs) × (8 ≤ number32_at xs 0) × (number32_at xs 0 ≤ FRAME_LENGTH) × (length xs < 4 + number32_at xs 0) × (k ≡ 4 + number32_at xs 0 - length xs))
 
 short_pass : (a b : Bool) (r n k : ℕ) (there : Front) → IsThere there → cond a (Broken r) (cond b (Lacking n) there) ≡ Lacking k → (a ≡ false) × (b ≡ true) × (k ≡ n)
 short_pass true b r n k there is e = absurd cc
@@ -80,9 +81,9 @@ lacks side xs k e =
           let one : ltb (length xs) 4 ≡ false = le-ltb _ _ four in
           let len : ℕ = number32_at xs 0 in
           let is : sized side len xs ≡ Lacking k = rw one at e in
-          let parts = short_pass (ltb len 8 || ltb 524316 len) (ltb (length xs) (4 + len)) 1 (4 + len - length xs) k (checked side (take len (drop 4 xs)) (drop (4 + len) xs)) (checked_there side (take len (drop 4 xs)) (drop (4 + len) xs)) is in
+          let parts = short_pass (ltb len 8 || ltb FRAME_LENGTH len) (ltb (length xs) (4 + len)) 1 (4 + len - length xs) k (checked side (take len (drop 4 xs)) (drop (4 + len) xs)) (checked_there side (take len (drop 4 xs)) (drop (4 + len) xs)) is in
           let range = or_parts _ _ parts.0 in
-          inr (four, ltb-false len 8 range.0, ltb-false 524316 len range.1, ltb-true _ _ parts.1, parts.2)
+          inr (four, ltb-false len 8 range.0, ltb-false FRAME_LENGTH len range.1, ltb-true _ _ parts.1, parts.2)
           )
     ]
 
@@ -90,12 +91,12 @@ short_few : (side : Side) (xs : List ℕ) → length xs < 4 → front side xs �
 unfolding front
 short_few side xs few = let short : ltb (length xs) 4 ≡ true = lt-ltb _ _ few in rw short refl
 
-short_sized : (side : Side) (xs : List ℕ) (len : ℕ) → len ≡ number32_at xs 0 → 4 ≤ length xs → 8 ≤ len → len ≤ 524316 → length xs < 4 + len → front side xs ≡ Lacking (4 + len - length xs)
+short_sized : (side : Side) (xs : List ℕ) (len : ℕ) → len ≡ number32_at xs 0 → 4 ≤ length xs → 8 ≤ len → len ≤ FRAME_LENGTH → length xs < 4 + len → front side xs ≡ Lacking (4 + len - length xs)
 unfolding front
 short_sized side xs len is four low high less =
     let one : ltb (length xs) 4 ≡ false = le-ltb _ _ four in
     let two : ltb len 8 ≡ false = le-ltb _ _ low in
-    let three : ltb 524316 len ≡ false = le-ltb _ _ high in
+    let three : ltb FRAME_LENGTH len ≡ false = le-ltb _ _ high in
     let short : ltb (length xs) (4 + len) ≡ true = lt-ltb _ _ less in
     rw (one, ← is, two, three, short) refl
 
@@ -129,7 +130,7 @@ whole_tight side xs ys k f rest e few whole =
 pub short_some : (side : Side) (xs : List ℕ) (k : ℕ) → front side xs ≡ Lacking k → 0 < k
 short_some side xs k e = elim (lacks side xs k e) [ inl few ↦ omega (arith, few.0, few.1) | inr sized ↦ omega (arith, sized.3, sized.4) ]
 
-pub short_most : (side : Side) (xs : List ℕ) (k : ℕ) → front side xs ≡ Lacking k → length xs + k ≤ 524320
+pub short_most : (side : Side) (xs : List ℕ) (k : ℕ) → front side xs ≡ Lacking k → length xs + k ≤ HELD
 short_most side xs k e = elim (lacks side xs k e) [ inl few ↦ omega (arith, few.0, few.1) | inr sized ↦ omega (arith, sized.2, sized.3, sized.4) ]
 
 whole_size : (side : Side) (xs : List ℕ) (f : Frame) (rest : List ℕ) → front side xs ≡ Whole f rest → length xs ≡ frame_size f + length rest

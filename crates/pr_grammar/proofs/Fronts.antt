@@ -5,6 +5,7 @@ use Rattle.std.proofs.lemmas.Bool.{le-ltb, ltb-false}
 use Rattle.std.proofs.lemmas.List.{take-append-le, drop-append-le, length-append, length-drop}
 use Rattle.pr_words.specs.Fields.{number32_at}
 use Rattle.pr_words.specs.declared.nexus.Side.{Side}
+use Rattle.pr_words.specs.declared.limits.TheConstants.{FRAME_LENGTH, HELD}
 use Rattle.pr_grammar.specs.Frames.{Front, Lacking, Broken, Whole, front, sized, checked, Frame}
 
 -- the front with more bytes behind it
@@ -26,17 +27,17 @@ by_tests false false false f rest ys = refl
 pub checked_more : (side : Side) (content rest ys : List ℕ) → checked side content (rest ++ ys) ≡ grown (checked side content rest) ys
 checked_more side content rest ys = by_tests _ _ _ _ rest ys
 
-sized_in : (side : Side) (b : Bool) (xs ys : List ℕ) (len : ℕ) → (ltb len 8 || ltb 524316 len) ≡ b → 524320 ≤ length xs → sized side len (xs ++ ys) ≡ grown (sized side len xs) ys
+sized_in : (side : Side) (b : Bool) (xs ys : List ℕ) (len : ℕ) → (ltb len 8 || ltb FRAME_LENGTH len) ≡ b → HELD ≤ length xs → sized side len (xs ++ ys) ≡ grown (sized side len xs) ys
 sized_in side true xs ys len is long = rw is refl
 sized_in side false xs ys len is long =
-    let small : len ≤ 524316 = ltb-false 524316 len (second _ _ is) in
+    let small : len ≤ FRAME_LENGTH = ltb-false FRAME_LENGTH len (second _ _ is) in
     let one : ltb (length xs) (4 + len) ≡ false = le-ltb _ _ (omega arith) in
     let two : ltb (length (xs ++ ys)) (4 + len) ≡ false = le-ltb _ _ (omega (arith, length-append xs ys)) in
     let content : take len (drop 4 (xs ++ ys)) ≡ take len (drop 4 xs) = ap (take len) (drop-append-le 4 xs ys (omega arith)) ∙ take-append-le len (drop 4 xs) ys (omega (arith, length-drop 4 xs)) in
     let rest : drop (4 + len) (xs ++ ys) ≡ drop (4 + len) xs ++ ys = drop-append-le (4 + len) xs ys (omega arith) in
     rw (is, one, two, content, rest) (checked_more side (take len (drop 4 xs)) (drop (4 + len) xs) ys)
 
-pub front_more : (side : Side) (xs ys : List ℕ) → 524320 ≤ length xs → front side (xs ++ ys) ≡ grown (front side xs) ys
+pub front_more : (side : Side) (xs ys : List ℕ) → HELD ≤ length xs → front side (xs ++ ys) ≡ grown (front side xs) ys
 unfolding front
 front_more side xs ys long =
     let one : ltb (length xs) 4 ≡ false = le-ltb _ _ (omega arith) in
@@ -59,18 +60,18 @@ tests_there false false false f rest = tt
 pub checked_there : (side : Side) (content rest : List ℕ) → IsThere (checked side content rest)
 checked_there side content rest = tests_there _ _ _ _ rest
 
-sized_there : (side : Side) (b : Bool) (xs : List ℕ) (len : ℕ) → (ltb len 8 || ltb 524316 len) ≡ b → 524320 ≤ length xs → IsThere (sized side len xs)
+sized_there : (side : Side) (b : Bool) (xs : List ℕ) (len : ℕ) → (ltb len 8 || ltb FRAME_LENGTH len) ≡ b → HELD ≤ length xs → IsThere (sized side len xs)
 sized_there side true xs len is long = rw is tt
 sized_there side false xs len is long =
-    let small : len ≤ 524316 = ltb-false 524316 len (second _ _ is) in
+    let small : len ≤ FRAME_LENGTH = ltb-false FRAME_LENGTH len (second _ _ is) in
     let one : ltb (length xs) (4 + len) ≡ false = le-ltb _ _ (omega arith) in
     rw (is, one) (checked_there side (take len (drop 4 xs)) (drop (4 + len) xs))
 
-front_there : (side : Side) (xs : List ℕ) → 524320 ≤ length xs → IsThere (front side xs)
+front_there : (side : Side) (xs : List ℕ) → HELD ≤ length xs → IsThere (front side xs)
 unfolding front
 front_there side xs long =
     let one : ltb (length xs) 4 ≡ false = le-ltb _ _ (omega arith) in
     rw one (sized_there side _ xs (number32_at xs 0) refl long)
 
-pub full_front : (side : Side) (xs : List ℕ) → 524320 ≤ length xs → (k : ℕ) → front side xs ≡ Lacking k → ⊥
+pub full_front : (side : Side) (xs : List ℕ) → HELD ≤ length xs → (k : ℕ) → front side xs ≡ Lacking k → ⊥
 full_front side xs long k e = subst IsThere e (front_there side xs long)

@@ -8,6 +8,7 @@ use Rattle.std.proofs.lemmas.List.Elements.{All-take, All-drop, All-get_or}
 use Rattle.std.proofs.lemmas.Nat.{from_be_bytes-to_be_bytes_2, from_be_bytes-to_be_bytes_4, be_bytes_2, be_bytes_4}
 use Rattle.pr_words.specs.Fields.{number32_at, number16_at}
 use Rattle.pr_words.specs.declared.nexus.Side.{Side}
+use Rattle.pr_words.specs.declared.limits.TheConstants.{BODY, FRAME_LENGTH}
 use Rattle.pr_grammar.specs.Frames.{Front, Lacking, Broken, Whole, front, sized, checked, is_kind, is_body, frame, Frame, spelled}
 
 -- what follows the length of the frame at the front
@@ -17,7 +18,7 @@ content_of bytes = take (number32_at bytes 0) (drop 4 bytes)
 -- what is known of a whole frame at the front
 pub record Found (side : Side) (bytes : List ℕ) (f : Frame) (rest : List ℕ) : Type 0 where
   pub least : 8 ≤ number32_at bytes 0
-  pub most : number32_at bytes 0 ≤ 524316
+  pub most : number32_at bytes 0 ≤ FRAME_LENGTH
   pub whole : 4 + number32_at bytes 0 ≤ length bytes
   pub kind : is_kind side f.kind ≡ true
   pub flags : slice_index (content_of bytes) 1 ≡ 0
@@ -32,7 +33,7 @@ checked_whole : (side : Side) (k l0 l1 t0 t1 t2 t3 : ℕ) (body rest : List ℕ)
 checked_whole side k l0 l1 t0 t1 t2 t3 body rest received formed = rw (received, formed) refl
 
 front_whole : (side : Side) (s0 s1 s2 s3 k l0 l1 t0 t1 t2 t3 : ℕ) (body rest : List ℕ) → from_be_bytes w32 (s0 ∷ s1 ∷ s2 ∷ s3 ∷ []) ≡ 8 + length body
-    → length body ≤ 524308 → is_kind side k ≡ true → is_body side k body ≡ true
+    → length body ≤ BODY → is_kind side k ≡ true → is_body side k body ≡ true
     → front side (s0 ∷ s1 ∷ s2 ∷ s3 ∷ k ∷ 0 ∷ l0 ∷ l1 ∷ t0 ∷ t1 ∷ t2 ∷ t3 ∷ (body ++ rest)) ≡ Whole (frame k (from_be_bytes w16 (l0 ∷ l1 ∷ [])) (from_be_bytes w32 (t0 ∷ t1 ∷ t2 ∷ t3 ∷ [])) body) rest
 unfolding front
 front_whole side s0 s1 s2 s3 k l0 l1 t0 t1 t2 t3 body rest size bound received formed =
@@ -42,7 +43,7 @@ front_whole side s0 s1 s2 s3 k l0 l1 t0 t1 t2 t3 body rest size bound received f
     let count : length bytes ≡ 12 + (length body + length rest) = omega (arith, length-append body rest) in
     let four : ltb (length bytes) 4 ≡ false = le-ltb _ _ (omega (arith, count)) in
     let low : ltb (8 + n) 8 ≡ false = le-ltb _ _ (omega arith) in
-    let high : ltb 524316 (8 + n) ≡ false = le-ltb _ _ (omega arith) in
+    let high : ltb FRAME_LENGTH (8 + n) ≡ false = le-ltb _ _ (omega arith) in
     let there : ltb (length bytes) (4 + (8 + n)) ≡ false = le-ltb _ _ (omega (arith, count)) in
     let content : take (8 + n) inner ≡ k ∷ 0 ∷ l0 ∷ l1 ∷ t0 ∷ t1 ∷ t2 ∷ t3 ∷ body =
     take-add 8 n inner ∙ ap (λ (w : List ℕ). k ∷ 0 ∷ l0 ∷ l1 ∷ t0 ∷ t1 ∷ t2 ∷ t3 ∷ w) (take_at body rest n refl) in
@@ -54,7 +55,7 @@ named : (k l m t u : ℕ) (body rest : List ℕ) → l ≡ m → t ≡ u → Who
 named k l m t u body rest a b = rw (a, b) refl
 
 -- a frame that is written and then read, with anything behind it
-pub read_back : (side : Side) (f : Frame) (rest : List ℕ) → is_kind side f.kind ≡ true → is_body side f.kind f.body ≡ true → f.lun < 2 ^ 16 → f.tag < 2 ^ 32 → length f.body ≤ 524308
+pub read_back : (side : Side) (f : Frame) (rest : List ℕ) → is_kind side f.kind ≡ true → is_body side f.kind f.body ≡ true → f.lun < 2 ^ 16 → f.tag < 2 ^ 32 → length f.body ≤ BODY
     → front side (spelled f ++ rest) ≡ Whole f rest
 read_back side f rest received formed lun tag bound =
     front_whole side _ _ _ _ f.kind _ _ _ _ _ _ f.body rest (from_be_bytes-to_be_bytes_4 (8 + length f.body) (omega arith)) bound received formed
@@ -92,13 +93,13 @@ four_held false k there f rest e = e
 found_sized : (side : Side) (bytes : List ℕ) (f : Frame) (rest : List ℕ) → sized side (number32_at bytes 0) bytes ≡ Whole f rest → Found side bytes f rest
 found_sized side bytes f rest e =
     let len : ℕ = number32_at bytes 0 in
-    let sizes : Sizes (ltb len 8 || ltb 524316 len) (ltb (length bytes) (4 + len)) (checked side (take len (drop 4 bytes)) (drop (4 + len) bytes)) (Whole f rest) = sizes_pass _ _ _ _ _ f rest e in
+    let sizes : Sizes (ltb len 8 || ltb FRAME_LENGTH len) (ltb (length bytes) (4 + len)) (checked side (take len (drop 4 bytes)) (drop (4 + len) bytes)) (Whole f rest) = sizes_pass _ _ _ _ _ f rest e in
     let tests : Tests _ _ _ _ f _ rest = tests_pass _ _ _ _ f _ rest sizes.same in
     let kind : is_kind side (slice_index (content_of bytes) 0) ≡ true = not-false _ tests.kind in
     let body : is_body side (slice_index (content_of bytes) 0) (drop 8 (content_of bytes)) ≡ true = not-false _ tests.body in
     record {
       least = ltb-false len 8 (or_parts _ _ sizes.range).0;
-      most = ltb-false 524316 len (or_parts _ _ sizes.range).1;
+      most = ltb-false FRAME_LENGTH len (or_parts _ _ sizes.range).1;
       whole = ltb-false (length bytes) (4 + len) sizes.count;
       kind = rw tests.first kind;
       flags = eqb-true _ _ (not-false _ tests.flags);

@@ -8,6 +8,7 @@ use Rattle.pr_words.specs.declared.nexus.Nexus.{Nexus}
 use Rattle.pr_words.specs.declared.code.Sense.{Sense}
 use Rattle.pr_words.specs.declared.code.Status.{Status}
 use Rattle.pr_words.specs.declared.code.Status.TheVariants.{Good, CheckCondition, ReservationConflict, TaskAborted}
+use Rattle.pr_words.specs.declared.limits.TheConstants.{DATA}
 use Rattle.pr_grammar.specs.Senses.{fixed_sense}
 
 abbrev pub is_zero : ℕ → Bool
@@ -64,7 +65,7 @@ command_reply status (Some s) data_in = (status_code status ∷ 18 ∷ 0 ∷ 0 �
 
 -- what a reply may carry: sense with CHECK CONDITION alone, and data-in, of at most 524,288 bytes, with GOOD alone
 abbrev pub IsProperReply : Status → Option Sense → List ℕ → Type 0
-IsProperReply Good None data_in = length data_in ≤ 524288
+IsProperReply Good None data_in = length data_in ≤ DATA
 IsProperReply CheckCondition (Some s) data_in = length data_in ≡ 0
 IsProperReply ReservationConflict None data_in = length data_in ≡ 0
 IsProperReply TaskAborted None data_in = length data_in ≡ 0

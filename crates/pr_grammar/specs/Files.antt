@@ -17,13 +17,14 @@ use Rattle.pr_words.specs.declared.reservation.Reservation.{Reservation}
 use Rattle.pr_words.specs.declared.reservation.Reservation.TheVariants.{Free, OfOne, OfAll}
 use Rattle.pr_grammar.specs.Standings.{Kept, Nothing, Some_kept, is_all, is_port, kind_of, holder_of}
 use Rattle.pr_grammar.specs.declared.file.FileLayout.{FileLayout}
+use Rattle.pr_grammar.specs.declared.file.TheConstants.{FILE_LAYOUT}
 
 -- ASCII PRKEEPER, and the version
 abbrev pub file_head : List ℕ
 file_head = 0x50 ∷ 0x52 ∷ 0x4B ∷ 0x45 ∷ 0x45 ∷ 0x50 ∷ 0x45 ∷ 0x52 ∷ 0x01 ∷ []
 
 abbrev pub file_layout : FileLayout
-file_layout = record { slot0 = 4096; slot1 = 8192; limit = 64 }
+file_layout = FILE_LAYOUT
 
 -- the bytes of a slot with room for so many registrations: the gate, 15 more, and theirs
 abbrev pub slot_size : ℕ → ℕ

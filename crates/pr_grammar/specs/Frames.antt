@@ -4,6 +4,7 @@ use Rattle.std.specs.Int.{w16, w32, to_be_bytes}
 use Rattle.pr_words.specs.Fields.{number16_at, number32_at}
 use Rattle.pr_words.specs.declared.nexus.Side.{Side}
 use Rattle.pr_words.specs.declared.nexus.Side.TheVariants.{Target, Initiator}
+use Rattle.pr_words.specs.declared.limits.TheConstants.{FRAME_LENGTH}
 use Rattle.pr_grammar.specs.Bodies.{is_login_body, is_command_body, is_login_reply, is_command_reply, is_reject}
 
 pub record Frame : Type 0 where
@@ -53,7 +54,7 @@ checked side content rest =
 -- rule 1, the length, is looked at once its four bytes are there, and all else once the frame is whole
 abbrev pub sized : Side → ℕ → List ℕ → Front
 sized side len bytes =
-    if nat_lt len 8 || nat_lt 524316 len then Broken 1 else
+    if nat_lt len 8 || nat_lt FRAME_LENGTH len then Broken 1 else
     if nat_lt (length bytes) (4 + len) then Lacking (4 + len - length bytes) else
     checked side (take len (drop 4 bytes)) (drop (4 + len) bytes)
 

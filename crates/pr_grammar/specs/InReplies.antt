@@ -9,6 +9,7 @@ use Rattle.pr_words.specs.declared.nexus.Nexus.{Nexus}
 use Rattle.pr_words.specs.declared.nexus.Key.{Key}
 use Rattle.pr_words.specs.declared.nexus.Pair.{Pair}
 use Rattle.pr_words.specs.declared.reservation.Kind.{Kind}
+use Rattle.pr_words.specs.declared.limits.TheConstants.{REPORTABLE}
 use Rattle.pr_grammar.specs.Standings.{Standing, kind_of, holder_of}
 use Rattle.pr_grammar.specs.Cdbs.{bit}
 use Rattle.pr_grammar.specs.declared.param.ReplyFault.{ReplyFault}
@@ -178,7 +179,7 @@ abbrev pub FitsPair : Pair → Type 0
 FitsPair p = (p.key.0 < 2 ^ 64) × (p.nexus.name < 2 ^ 64) × (p.nexus.port < 2 ^ 16)
 
 abbrev pub FitsReplies : Standing → Type 0
-FitsReplies s = (s.generation < 2 ^ 32) × (length s.pairs ≤ 65536) × All FitsPair s.pairs
+FitsReplies s = (s.generation < 2 ^ 32) × (length s.pairs ≤ REPORTABLE) × All FitsPair s.pairs
 
 abbrev pub listed_keys : Standing → KeyList
 listed_keys s = record { generation = s.generation; keys = map (λ (p : Pair). p.key) s.pairs }

@@ -2,6 +2,7 @@
 -- The fields are the standards', and what they say is this project's own.
 use Rattle.std.specs.Prelude.{ℕ, ◌-◌, ◌==◌, Bool, List, [], ◌∷◌, ◌++◌, length, replicate, codes, min, Option, Some, None, if◌then◌else◌}
 use Rattle.std.specs.Int.{w16, w32, w64, to_be_bytes}
+use Rattle.pr_words.specs.declared.limits.TheConstants.{BLOCK}
 
 -- INQUIRY (SPC-4, standard INQUIRY data)
 
@@ -73,18 +74,14 @@ vital_page_at code here =
 
 -- READ CAPACITY (SBC-3)
 
--- LOGICAL BLOCK LENGTH IN BYTES
-abbrev pub block_length : ℕ
-block_length = 512
-
 -- READ CAPACITY(10) data: RETURNED LOGICAL BLOCK ADDRESS is the last block's, or FFFFFFFFh where the
--- field is too small for it
+-- field is too small for it, and LOGICAL BLOCK LENGTH IN BYTES
 abbrev pub capacity_10 : ℕ → List ℕ
-capacity_10 blocks = to_be_bytes w32 (min (blocks - 1) 0xFFFFFFFF) ++ to_be_bytes w32 block_length
+capacity_10 blocks = to_be_bytes w32 (min (blocks - 1) 0xFFFFFFFF) ++ to_be_bytes w32 BLOCK
 
 -- READ CAPACITY(16) data: without protection, and each logical block is a physical one
 abbrev pub capacity_16 : ℕ → List ℕ
-capacity_16 blocks = to_be_bytes w64 (blocks - 1) ++ to_be_bytes w32 block_length ++ replicate 20 0
+capacity_16 blocks = to_be_bytes w64 (blocks - 1) ++ to_be_bytes w32 BLOCK ++ replicate 20 0
 
 -- REPORT LUNS (SPC-4)
 

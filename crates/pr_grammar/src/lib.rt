@@ -16,7 +16,7 @@ mod param;
 mod sense;
 
 pub use cdb::{Cdb, CdbFault, Class, Command};
-pub use file::FileLayout;
+pub use file::{FILE_LAYOUT, FileLayout};
 pub use operation::OperationCode;
 pub use param::{Capabilities, FullEntry, Held, OutList, ParamFault, ReplyFault};
 pub use sense::SenseFault;

@@ -8,6 +8,7 @@ use Rattle.std.specs.Int.{w32, from_be_bytes}
 use Rattle.pr_words.specs.Fields.{number32_at}
 use Rattle.pr_words.specs.declared.nexus.Side.{Side}
 use Rattle.pr_words.specs.declared.nexus.Side.TheVariants.{Initiator}
+use Rattle.pr_words.specs.declared.limits.TheConstants.{BODY, FRAME_LENGTH}
 use Rattle.pr_grammar.specs.Frames as grammar
 use Rattle.pr_grammar.specs.Frames.{Lacking, Broken, Whole, front, is_body, sized}
 use Rattle.pr_link.specs.declared.frame.Frame.{Frame}
@@ -24,7 +25,7 @@ never_broken : (b : Bool) (k r : ℕ) (other : grammar.Front) → cond b (Broken
 never_broken true k r other same = absurd cc
 never_broken false k r other same = refl
 
-unbroken : (xs : List ℕ) (k : ℕ) → length xs ≡ 4 → front Initiator xs ≡ Lacking k → (ltb (number32_at xs 0) 8 || ltb 524316 (number32_at xs 0)) ≡ false
+unbroken : (xs : List ℕ) (k : ℕ) → length xs ≡ 4 → front Initiator xs ≡ Lacking k → (ltb (number32_at xs 0) 8 || ltb FRAME_LENGTH (number32_at xs 0)) ≡ false
 unfolding front
 unbroken xs k four lacks =
     let some : ltb (length xs) 4 ≡ false = le-ltb _ _ (omega (arith, four)) in
@@ -41,13 +42,13 @@ rest_lacks xs ys k four lacks number few =
     let same : number32_at (xs ++ ys) 0 ≡ number32_at xs 0 = number_same xs ys four in
     let some : ltb (length (xs ++ ys)) 4 ≡ false = le-ltb _ _ (omega (arith, length-append xs ys, four)) in
     let short : ltb (length (xs ++ ys)) (4 + k) ≡ true = lt-ltb _ _ (omega (arith, length-append xs ys, four, few)) in
-    let calm : (ltb k 8 || ltb 524316 k) ≡ false = rw number at (unbroken xs k four lacks) in
+    let calm : (ltb k 8 || ltb FRAME_LENGTH k) ≡ false = rw number at (unbroken xs k four lacks) in
     rw (some, same, number, calm, short) refl
 
 -- a frame that is whole, with nothing behind it
 pub record Just (side : Side) (g : Frame) (work : List ℕ) (n : ℕ) : Type 0 where
   pub size : n ≡ 12 + g.body
-  pub bound : g.body ≤ 524308
+  pub bound : g.body ≤ BODY
   pub formed : is_body side g.kind (body_in g.body work) ≡ true
   pub whole : front side (take (12 + g.body) work) ≡ Whole (frame_of g (body_in g.body work)) []
 

@@ -5,6 +5,7 @@ use Rattle.pr_grammar.specs.declared.cdb.Command.TheVariants.{ReserveOut}
 use Rattle.pr_grammar.specs.Cdbs.{spelled_cdb}
 use Rattle.pr_grammar.specs.Frames.{spelled}
 use Rattle.pr_io.specs.Causes.{Rose}
+use Rattle.pr_words.specs.declared.limits.TheConstants.{PARAMETER_LIST}
 use Rattle.pr_link.specs.Requests.{request_frame}
 use Rattle.pr_link.specs.declared.request.Request.TheVariants as request
 use Rattle.pr_initiator.specs.declared.answer.Answer.{Answer}
@@ -15,7 +16,7 @@ use Rattle.pr_initiator.specs.Links.{Link, Yields, next_tag}
 use Rattle.pr_initiator.specs.Commands.{Order, HasAnswered, plain_cdb, order_bytes}
 
 abbrev pub out_order : ℕ → ℕ → List ℕ → Order
-out_order code kind list = record { command = ReserveOut code 0 kind 24; list = list }
+out_order code kind list = record { command = ReserveOut code 0 kind PARAMETER_LIST; list = list }
 
 abbrev pub bytes_with : ℕ → List ℕ → List ℕ → List ℕ
 bytes_with tag list cdb = spelled (request_frame (request.Command cdb (length list)) 0 tag list)

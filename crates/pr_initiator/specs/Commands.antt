@@ -6,6 +6,8 @@ use Rattle.pr_words.specs.declared.code.Code.{Code}
 use Rattle.pr_words.specs.declared.code.Sense.{Sense}
 use Rattle.pr_words.specs.declared.service.InService.{InService}
 use Rattle.pr_words.specs.declared.service.OutService.{OutService}
+use Rattle.pr_words.specs.declared.code.TheConstants.{UNIT_ATTENTION}
+use Rattle.pr_words.specs.declared.limits.TheConstants.{PARAMETER_LIST}
 use Rattle.pr_grammar.specs.declared.cdb.Cdb.{Cdb}
 use Rattle.pr_grammar.specs.declared.cdb.Command.{Command}
 use Rattle.pr_grammar.specs.declared.cdb.Command.TheVariants.{TestUnitReady, Inquiry, ReserveIn, ReserveOut}
@@ -20,6 +22,7 @@ use Rattle.pr_initiator.specs.declared.link_fault.LinkFault.{LinkFault}
 use Rattle.pr_initiator.specs.declared.link_fault.LinkFault.TheVariants as fault
 use Rattle.pr_initiator.specs.Calls.{answer_by}
 use Rattle.pr_initiator.specs.Links.{Link, HasCalled}
+use Rattle.pr_initiator.specs.declared.commands.TheConstants.{ALLOCATION, INQUIRY_DATA}
 
 -- a command with its data-out
 pub record Order : Type 0 where
@@ -32,13 +35,13 @@ without_data command = record { command = command; list = [] }
 abbrev pub test_unit_ready : Order
 test_unit_ready = without_data TestUnitReady
 
--- the standard data, of 36 bytes
+-- the standard data, of so many bytes as SPC-4 has
 abbrev pub inquiry : Order
-inquiry = without_data (Inquiry false 0 36)
+inquiry = without_data (Inquiry false 0 INQUIRY_DATA)
 
 -- PERSISTENT RESERVE IN, with the longest allocation length
 abbrev pub reserve_in : InService → Order
-reserve_in service = without_data (ReserveIn (in_service_code service) 65535)
+reserve_in service = without_data (ReserveIn (in_service_code service) ALLOCATION)
 
 -- a parameter list of RESERVATION KEY, SERVICE ACTION RESERVATION KEY and APTPL
 abbrev pub out_list : ℕ → ℕ → Bool → OutList
@@ -46,7 +49,7 @@ out_list key action_key aptpl = record { key = key; action_key = action_key; spe
 
 -- PERSISTENT RESERVE OUT, with scope 0 and this type
 abbrev pub reserve_out : OutService → ℕ → OutList → Order
-reserve_out service kind list = record { command = ReserveOut (out_service_code service) 0 kind 24; list = spelled_list list }
+reserve_out service kind list = record { command = ReserveOut (out_service_code service) 0 kind PARAMETER_LIST; list = spelled_list list }
 
 abbrev pub plain_cdb : Command → Cdb
 plain_cdb command = record { command = command; naca = false }
@@ -62,7 +65,7 @@ HasAnswered old new o result = HasCalled (answer_by old.place) 0x82 old new (ord
 -- the code of sense data whose sense key is UNIT ATTENTION
 abbrev pub attention_in : Option Sense → Option Code
 attention_in None = None
-attention_in (Some s) = if s.code.key == 6 then Some s.code else None
+attention_in (Some s) = if s.code.key == UNIT_ATTENTION then Some s.code else None
 
 abbrev pub attention_of : Result Answer LinkFault → Option Code
 attention_of (Ok a) = attention_in a.sense

@@ -13,7 +13,7 @@ use pr_cdb::{Cdb, Command};
 use pr_io::Wire;
 use pr_link::RawCdb;
 use pr_param::{OutList, write_out_list};
-use pr_words::{Code, InService, Key, OutService, PARAMETER_LIST, Sense};
+use pr_words::{Code, InService, Key, OutService, PARAMETER_LIST, Sense, UNIT_ATTENTION};
 
 /// The most answers that `Initiator::ready` asks for.
 const READINESS: u8 = 9;
@@ -21,12 +21,15 @@ const READINESS: u8 = 9;
 /// The allocation length of standard INQUIRY data, in bytes (SPC-4).
 const INQUIRY_DATA: u16 = 36;
 
+/// The longest allocation length of PERSISTENT RESERVE IN (SPC-4).
+const ALLOCATION: u16 = 65_535;
+
 /// The code of a unit attention. None where the sense data are none, or of another sense key (SPC-4).
 fn attention(sense: Option<Sense>) -> Option<Code>
     ensures { result ≡ attention_in sense }
 {
     match sense {
-        Some(sense) if sense.code.key == 6 => Some(sense.code),
+        Some(sense) if sense.code.key == UNIT_ATTENTION => Some(sense.code),
         _ => None,
     }
 }
@@ -59,7 +62,7 @@ impl<W: Wire + Drop> Initiator<W> {
     {
         let command = Command::ReserveIn {
             action: service.code(),
-            allocation: u16::MAX,
+            allocation: ALLOCATION,
         };
         self.order(command, &[])
     }

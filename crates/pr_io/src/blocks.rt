@@ -5,7 +5,7 @@ ghost use Rattle.pr_io.specs.Contents.{OthersStay, block_at};
 use crate::{BulkMedium, Failed};
 
 /// The length of a block, in bytes.
-const BLOCK: usize = 512;
+pub(crate) const BLOCK: usize = 512;
 
 /// Blocks in memory, one after another.
 #[derive(Drop)]

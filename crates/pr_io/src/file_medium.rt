@@ -2,13 +2,13 @@ ghost use Rattle.std.specs.Prelude.{◌≡◌, ◌≤◌, ◌<◌, ◌^◌, ◌�
 ghost use Rattle.pr_io.specs.Files.{IsNoCount};
 
 use crate::faults::{Faults, counted};
-use crate::{BulkMedium, Failed, Medium};
+use crate::{BulkMedium, Failed, Medium, blocks};
 use std::fs::{File, Files, OpenOptions};
 use std::io;
 use std::os::unix::fs::FileExt;
 
 /// The length of a block, in bytes.
-const BLOCK: u64 = 512;
+const BLOCK: u64 = blocks::BLOCK as u64;
 
 /// The most blocks that a medium may have.
 const MOST: u64 = 1 << 40;

@@ -1,9 +1,10 @@
-ghost use Rattle.std.specs.Prelude.{◌≡◌, ◌<◌, ◌↔◌, ℕ, List, Option, None, IfOk, IsTrue, length, replicate};
+ghost use Rattle.std.specs.Prelude.{◌≡◌, ◌<◌, ◌↔◌, ◌*◌, ℕ, List, Option, None, IfOk, IsTrue, length, replicate};
 ghost use Rattle.std.specs.Bool.{OnTrue};
 ghost use Rattle.pr_io.specs.BlocksAhead.{IsKept, IsTrueTo, place_of, piece_of, slot_of};
 ghost use Rattle.pr_io.specs.Contents.{WritesBlock};
+ghost use Rattle.pr_io.specs.declared.read_ahead.TheConstants.{AHEAD, PLACES};
 
-use crate::blocks::Blocks;
+use crate::blocks::{BLOCK, Blocks};
 use crate::faults::Faults;
 use crate::{BulkMedium, Failed, Medium};
 use std::alloc::{AllocError, Global};
@@ -17,6 +18,8 @@ const PLACES: usize = 32;
 /// The bytes of all pieces.
 const AHEAD: usize = 524_288;
 
+const _: () = prove!(AHEAD == PIECE as usize * PLACES * BLOCK);
+
 /// A medium of which blocks are read ahead: 16 KiB at a time, of which the last few are kept, so
 /// that several readers who each read on don't take them from each other.
 ///
@@ -28,8 +31,8 @@ pub struct ReadAhead<M: BulkMedium + Drop> {
     ahead: Blocks,
     pieces: Vec<Option<u64>>,
     faults: Faults,
-    ghost room: { length ahead.bytes.items ≡ 524288 },
-    ghost places: { length pieces.items ≡ 32 },
+    ghost room: { length ahead.bytes.items ≡ AHEAD },
+    ghost places: { length pieces.items ≡ PLACES },
     ghost alike: { IsTrueTo (M.Medium.contents medium) (M.Medium.count medium) pieces.items
         ahead.bytes.items },
 }
@@ -94,14 +97,14 @@ impl<M: BulkMedium + Drop> Medium for ReadAhead<M> {
 
 /// Room for all pieces.
 fn room_ahead(alloc: Global) -> Result<Blocks, AllocError>
-    ensures { IfOk result (λ b. length b.bytes.items ≡ 524288) }
+    ensures { IfOk result (λ b. length b.bytes.items ≡ AHEAD) }
 {
     Ok(Blocks::new(vec![in alloc; 0u8; AHEAD]?))
 }
 
 /// No piece in any place.
 fn nothing_kept(alloc: Global) -> Result<Vec<Option<u64>>, AllocError>
-    ensures { IfOk result (λ p. p.items ≡ replicate 32 None) }
+    ensures { IfOk result (λ p. p.items ≡ replicate PLACES None) }
 {
     vec![in alloc; None; PLACES]
 }
@@ -109,23 +112,24 @@ fn nothing_kept(alloc: Global) -> Result<Vec<Option<u64>>, AllocError>
 /// Where the piece of a block is kept.
 fn place_for(lba: u64) -> usize
     ensures place { result ≡ place_of (piece_of lba) }
-    ensures within { result < 32 }
+    ensures within { result < PLACES }
 {
     let piece = lba / PIECE;
-    ((piece + piece / 32 + piece / 1024) % 32) as usize
+    let places = PLACES as u64;
+    ((piece + piece / places + piece / (places * places)) % places) as usize
 }
 
 /// Where a block is kept.
 fn slot_for(lba: u64) -> u64
     ensures slot { result ≡ slot_of lba }
-    ensures within { result < 1024 }
+    ensures within { result < PIECE * PLACES }
 {
     place_for(lba) as u64 * PIECE + lba % PIECE
 }
 
 /// Whether a block's piece is kept.
 fn is_kept(pieces: &Vec<Option<u64>>, lba: u64) -> bool
-    requires { length pieces.now.items ≡ 32 }
+    requires { length pieces.now.items ≡ PLACES }
     ensures { IsTrue result ↔ IsKept pieces.now.items lba }
 {
     pieces[place_for(lba)] == Some(lba / PIECE)
@@ -139,10 +143,10 @@ fn follow(
     block: &[u8; 512],
     written: Result<(), Failed>,
 )
-    requires room { length ahead.old.bytes.items ≡ 524288 }
-    requires places { length pieces.old.items ≡ 32 }
-    ensures room { length ahead.new.bytes.items ≡ 524288 }
-    ensures places { length pieces.new.items ≡ 32 }
+    requires room { length ahead.old.bytes.items ≡ AHEAD }
+    requires places { length pieces.old.items ≡ PLACES }
+    ensures room { length ahead.new.bytes.items ≡ AHEAD }
+    ensures places { length pieces.new.items ≡ PLACES }
     ensures alike { (before now : Option (ℕ → List ℕ)) (count : ℕ)
         → WritesBlock before now lba written block.now
         → IsTrueTo before count pieces.old.items ahead.old.bytes.items
@@ -166,12 +170,12 @@ fn keep<M: BulkMedium>(
     lba: u64,
 ) -> bool
     requires within { lba < M.Medium.count medium.old }
-    requires room { length ahead.old.bytes.items ≡ 524288 }
-    requires places { length pieces.old.items ≡ 32 }
+    requires room { length ahead.old.bytes.items ≡ AHEAD }
+    requires places { length pieces.old.items ≡ PLACES }
     requires alike { IsTrueTo (M.Medium.contents medium.old) (M.Medium.count medium.old)
         pieces.old.items ahead.old.bytes.items }
-    ensures room { length ahead.new.bytes.items ≡ 524288 }
-    ensures places { length pieces.new.items ≡ 32 }
+    ensures room { length ahead.new.bytes.items ≡ AHEAD }
+    ensures places { length pieces.new.items ≡ PLACES }
     ensures alike { IsTrueTo (M.Medium.contents medium.new) (M.Medium.count medium.new)
         pieces.new.items ahead.new.bytes.items }
     ensures kept { OnTrue result (IsKept pieces.new.items lba) }

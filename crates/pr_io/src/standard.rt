@@ -3,6 +3,7 @@ ghost use Rattle.std.specs.Io.KnownBytes.{Consumes, IsAtEnd, Keeps, ReadConsumes
 ghost use Rattle.pr_io.specs.Ahead.{left_of};
 ghost use Rattle.pr_io.specs.Causes.{HasCause};
 ghost use Rattle.pr_io.specs.Streams.{HasEnded, MovesInto, Reaches};
+ghost use Rattle.pr_io.specs.declared.standard.TheConstants.{AHEAD};
 
 use crate::faults::Faults;
 use crate::{Failed, Sink, Source};
@@ -10,7 +11,7 @@ use std::alloc::{AllocError, Global};
 use std::io::{ErrorKind, Read, Write};
 
 /// How many bytes are read ahead.
-const AHEAD: usize = 65536;
+const AHEAD: usize = 65_536;
 
 /// How often a call is made again that a signal interrupted.
 const TRIES: u32 = 1000;
@@ -28,7 +29,7 @@ pub struct StdinSource<R: Read + Drop> {
     faults: Faults,
     ghost order: { from ≤ to },
     ghost within: { to ≤ length ahead.items },
-    ghost room: { length ahead.items ≡ 65536 },
+    ghost room: { length ahead.items ≡ AHEAD },
 }
 
 impl<R: Read + Drop> StdinSource<R> {

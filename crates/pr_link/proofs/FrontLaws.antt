@@ -4,6 +4,7 @@ use Rattle.std.proofs.lemmas.Bool.{le-ltb}
 use Rattle.std.proofs.lemmas.List.{length-take-le, length-drop, drop-drop, drop-take}
 use Rattle.pr_words.specs.Fields.{number32_at}
 use Rattle.pr_words.specs.declared.nexus.Side.{Side}
+use Rattle.pr_words.specs.declared.limits.TheConstants.{FRAME_LENGTH}
 use Rattle.pr_grammar.specs.Frames as grammar
 use Rattle.pr_grammar.specs.Frames.{Lacking, Broken, Whole, front, sized, checked, is_kind, is_body}
 use Rattle.pr_link.specs.declared.front.Front.{Front}
@@ -12,17 +13,17 @@ use Rattle.pr_link.specs.Streams.{frame_of}
 use Rattle.pr_link.specs.Fronts.{IsFront, IsChecked, body_in}
 
 -- a frame that is whole is looked at by its content
-front_whole : (side : Side) (bytes : List ℕ) (len : ℕ) → number32_at bytes 0 ≡ len → 4 ≤ length bytes → 8 ≤ len → len ≤ 524316 → 4 + len ≤ length bytes
+front_whole : (side : Side) (bytes : List ℕ) (len : ℕ) → number32_at bytes 0 ≡ len → 4 ≤ length bytes → 8 ≤ len → len ≤ FRAME_LENGTH → 4 + len ≤ length bytes
     → front side bytes ≡ checked side (take len (drop 4 bytes)) (drop (4 + len) bytes)
 unfolding front
 front_whole side bytes len is four least most whole =
     let some : ltb (length bytes) 4 ≡ false = le-ltb _ _ four in
     let low : ltb len 8 ≡ false = le-ltb _ _ least in
-    let high : ltb 524316 len ≡ false = le-ltb _ _ most in
+    let high : ltb FRAME_LENGTH len ≡ false = le-ltb _ _ most in
     let all : ltb (length bytes) (4 + len) ≡ false = le-ltb _ _ whole in
     rw (some, is, low, high, all) refl
 
-by_content : (side : Side) (bytes : List ℕ) (len : ℕ) (k : grammar.Front) (r : Front) → number32_at bytes 0 ≡ len → 8 ≤ len → len ≤ 524316 → 4 + len ≤ length bytes
+by_content : (side : Side) (bytes : List ℕ) (len : ℕ) (k : grammar.Front) (r : Front) → number32_at bytes 0 ≡ len → 8 ≤ len → len ≤ FRAME_LENGTH → 4 + len ≤ length bytes
     → IsChecked side k r (take len (drop 4 bytes)) (drop (4 + len) bytes) → IsFront side k r bytes
 by_content side bytes len (Broken a) (fronts.Bad b) number least most whole is = is
 by_content side bytes len (Whole f tail) (fronts.Whole g) number least most whole is =
@@ -41,7 +42,7 @@ by_content side bytes len (Lacking k) (fronts.Need n) number least most whole is
 by_content side bytes len (Lacking k) (fronts.Bad n) number least most whole is = absurd is
 by_content side bytes len (Lacking k) (fronts.Whole g) number least most whole is = absurd is
 
-pub to_front : (side : Side) (bytes content : List ℕ) (len : ℕ) (r : Front) → number32_at bytes 0 ≡ len → 4 ≤ length bytes → 8 ≤ len → len ≤ 524316 → 4 + len ≤ length bytes
+pub to_front : (side : Side) (bytes content : List ℕ) (len : ℕ) (r : Front) → number32_at bytes 0 ≡ len → 4 ≤ length bytes → 8 ≤ len → len ≤ FRAME_LENGTH → 4 + len ≤ length bytes
     → content ≡ take len (drop 4 bytes) → ((rest : List ℕ) → IsChecked side (checked side content rest) r content rest) → IsFront side (front side bytes) r bytes
 to_front side bytes content len r is four least most whole cut checks =
     let rest : List ℕ = drop (4 + len) bytes in

@@ -15,7 +15,7 @@ use Rattle.pr_grammar.specs.Cdbs.{operation_code, service_action, command_in}
 use Rattle.pr_grammar.specs.OutLists.{list_of}
 use Rattle.pr_grammar.specs.Standings.{IsAscending, is_registered}
 use Rattle.pr_words.specs.Fields.{number16_at, number32_at, number64_at}
-use Rattle.pr_model.specs.Limits.{LIMIT}
+use Rattle.pr_words.specs.declared.limits.TheConstants.{LIMIT}
 use Rattle.pr_model.specs.Acts.{Acted, Verdict, Good, Conflict, Bad, acted}
 use Rattle.pr_model.specs.Acts as acts
 use Rattle.pr_model.specs.Attentions.{told}

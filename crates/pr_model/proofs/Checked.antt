@@ -2,13 +2,14 @@
 use Rattle.std.proofs.Common.{◌≡◌, ℕ, Bool, true, false, cond, not, List, [], ◌∷◌, ◌++◌, Option, Some, None, is_some, refl, subst}
 use Rattle.pr_words.specs.declared.nexus.Nexus.{Nexus}
 use Rattle.pr_words.specs.declared.code.Code.{Code}
+use Rattle.pr_words.specs.declared.code.TheConstants.Code.{INVALID_COMMAND_OPERATION_CODE, LOGICAL_UNIT_NOT_SUPPORTED}
 use Rattle.pr_grammar.specs.declared.cdb.Command.{Command}
 use Rattle.pr_grammar.specs.declared.cdb.Command.TheVariants as commands
 use Rattle.pr_grammar.specs.Operations.{operation_at, class_of, is_unconditional}
 use Rattle.pr_grammar.specs.Cdbs.{operation_code, command_of}
 use Rattle.pr_model.specs.Conflicts.{is_forbidden}
 use Rattle.pr_model.specs.Worlds.{World, set_at}
-use Rattle.pr_model.specs.Commands.{Answer, answer, checking, conflict, refused_where, conflict_where, attention_check, form_checks, command_checks, first_or, served, answered, is_elsewhere, invalid_operation, unsupported_unit}
+use Rattle.pr_model.specs.Commands.{Answer, answer, checking, conflict, refused_where, conflict_where, attention_check, form_checks, command_checks, first_or, served, answered, is_elsewhere}
 
 -- the answer of a check of the attention is that the first attention is reported
 pub reported : (w : World) (n : Nexus) (op : ℕ) (cs : List Code) (P : Answer → Type 0) → ((c : Code) (rest : List Code) → P (answer (record w { attentions = set_at w.attentions n rest }) (checking c)))
@@ -74,9 +75,9 @@ module _ (P : Answer → Type 0) (w : World) (refused : (c : Code) → P (answer
       let rest : List (Option Answer) = form_checks w op cdb ++ command_checks w command sent in
       let own : AllFit rest = joined (form_checks w op cdb) (command_checks w command sent) (plain _ _, (plain _ _, tt)) (command_fits command sent) in
       let third = conflict_where forbidden w ∷ rest in
-      let second = refused_where (not (is_some (operation_at op))) w invalid_operation ∷ third in
+      let second = refused_where (not (is_some (operation_at op))) w INVALID_COMMAND_OPERATION_CODE ∷ third in
       let first = attention_check w n op (w.attentions n) ∷ second in
-      one_more (refused_where (is_elsewhere lun op) w unsupported_unit) first last (plain (is_elsewhere lun op) unsupported_unit)
+      one_more (refused_where (is_elsewhere lun op) w LOGICAL_UNIT_NOT_SUPPORTED) first last (plain (is_elsewhere lun op) LOGICAL_UNIT_NOT_SUPPORTED)
       (one_more (attention_check w n op (w.attentions n)) second last attends
-      (one_more (refused_where (not (is_some (operation_at op))) w invalid_operation) third last (plain (not (is_some (operation_at op))) invalid_operation)
+      (one_more (refused_where (not (is_some (operation_at op))) w INVALID_COMMAND_OPERATION_CODE) third last (plain (not (is_some (operation_at op))) INVALID_COMMAND_OPERATION_CODE)
       (conflicted conflicts forbidden forbidden refl rest last own serves)))

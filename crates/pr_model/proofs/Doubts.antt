@@ -4,6 +4,7 @@ use Rattle.pr_words.specs.declared.nexus.Nexus.{Nexus}
 use Rattle.pr_words.specs.declared.code.Code.{Code}
 use Rattle.pr_words.specs.declared.task.Way.{Way}
 use Rattle.pr_words.specs.declared.task.Way.TheVariants as ways
+use Rattle.pr_words.specs.declared.code.TheConstants.Code.{LOGICAL_UNIT_NOT_SUPPORTED}
 use Rattle.pr_grammar.specs.declared.cdb.Command.{Command}
 use Rattle.pr_grammar.specs.declared.cdb.Command.TheVariants as commands
 use Rattle.pr_grammar.specs.Cdbs.{operation_code, command_of}
@@ -14,7 +15,7 @@ use Rattle.pr_model.specs.Worlds.{World, Task, set_at}
 use Rattle.pr_model.specs.Tasks.{new_task}
 use Rattle.pr_model.specs.Entries as entries
 use Rattle.pr_model.specs.Entries.{Act, Out, Entry, History, Started}
-use Rattle.pr_model.specs.Commands.{Answer, answer, good, sense_data, unsupported_unit, by_verdict, hand_out, served, answered}
+use Rattle.pr_model.specs.Commands.{Answer, answer, good, sense_data, by_verdict, hand_out, served, answered}
 use Rattle.pr_model.specs.Saving.{asks_to_save, restorable, settled, doubted, tells_failure}
 use Rattle.pr_model.specs.Steps.{stepped_in}
 use Rattle.pr_model.specs.Histories.{login_code, logged_in, moved_by, moved, after, failures_by, failures_in}
@@ -36,7 +37,7 @@ hand_out_sure w n descriptor allocation [] sure = sure
 hand_out_sure w n descriptor allocation (c ∷ cs) sure = sure
 
 sense_sure : (w : World) (n : Nexus) (descriptor : Bool) (allocation : ℕ) (here : Bool) → IsSure w
-    → IsSure (cond here (hand_out w n descriptor allocation (w.attentions n)) (answer w (good (take allocation (sense_data descriptor unsupported_unit))))).world
+    → IsSure (cond here (hand_out w n descriptor allocation (w.attentions n)) (answer w (good (take allocation (sense_data descriptor LOGICAL_UNIT_NOT_SUPPORTED))))).world
 sense_sure w n descriptor allocation true sure = hand_out_sure w n descriptor allocation (w.attentions n) sure
 sense_sure w n descriptor allocation false sure = sure
 

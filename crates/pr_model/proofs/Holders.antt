@@ -12,9 +12,10 @@ use Rattle.pr_words.specs.declared.reservation.Reservation.{Reservation}
 use Rattle.pr_words.specs.declared.reservation.Reservation.TheVariants.{Free, OfOne, OfAll}
 use Rattle.pr_words.specs.Kinds.{kind_at, kind_code}
 use Rattle.pr_words.specs.Orders.{same_nexus, comes_before}
+use Rattle.pr_words.specs.declared.code.TheConstants.Code.{INSUFFICIENT_REGISTRATION_RESOURCES, INVALID_FIELD_IN_PARAMETER_LIST, INVALID_RELEASE_OF_PERSISTENT_RESERVATION, REGISTRATIONS_PREEMPTED}
 use Rattle.pr_grammar.specs.Standings.{Standing, is_at, is_registered, key_of, is_holder, kind_of}
 use Rattle.pr_model.specs.Registrants.{IsSound, IsHeldIn, pair, has_key, is_earlier, is_later, with_pair, but_those, held, is_all}
-use Rattle.pr_model.specs.Acts.{Conflict, missed, reserved, reserve_of, release_of, taken, ReserveOut, acted, register, registered, unregistered, without_holder, reserve, release, clear, preempt, taking, removing, while_any, is_own, holds_with, key_or_zero, is_of_all, preempted, leads, stays, refusing, holder_left}
+use Rattle.pr_model.specs.Acts.{Conflict, missed, reserved, reserve_of, release_of, taken, ReserveOut, acted, register, registered, unregistered, without_holder, reserve, release, clear, preempt, taking, removing, while_any, is_own, holds_with, key_or_zero, is_of_all, leads, stays, holder_left, Bad}
 use Rattle.pr_model.proofs.Orders.{same_is, neither}
 
 -- a list with an element that passes isn't empty
@@ -92,7 +93,7 @@ register_sound limit s n key aptpl sound = by (key == 0) (is_registered s.pairs 
     put (OfOne kind holder) h = (h.0, put_registered s.pairs (pair n key) holder h.1)
     put (OfAll kind) h = (h.0, put_long s.pairs (pair n key))
 
-    by : (a b c : Bool) → IsSound (cond a (cond b (record (leads (unregistered s n aptpl)) { stay_code = holder_left n s.reservation }) (leads s)) (cond c (stays s (refusing 0x55 0x04)) (leads (registered s n key aptpl)))).standing
+    by : (a b c : Bool) → IsSound (cond a (cond b (record (leads (unregistered s n aptpl)) { stay_code = holder_left n s.reservation }) (leads s)) (cond c (stays s (Bad INSUFFICIENT_REGISTRATION_RESOURCES)) (leads (registered s n key aptpl)))).standing
     by true true c = gone s.reservation sound
     by true false c = sound
     by false b true = sound
@@ -121,7 +122,7 @@ release_sound : (o : Option Kind) (s : Standing) (n : Nexus) (scope kind : ℕ) 
 release_sound None s n scope kind sound = sound
 release_sound (Some k) s n scope kind sound = by (not (is_holder s n)) (scope == 0 && kind_code k == kind)
   where
-    by : (a b : Bool) → IsSound (cond a (leads s) (cond b (record (leads (record s { reservation = Free })) { stay_code = missed k }) (stays s (refusing 0x26 0x04)))).standing
+    by : (a b : Bool) → IsSound (cond a (leads s) (cond b (record (leads (record s { reservation = Free })) { stay_code = missed k }) (stays s (Bad INVALID_RELEASE_OF_PERSISTENT_RESERVATION)))).standing
     by true b = sound
     by false true = tt
     by false false = sound
@@ -144,8 +145,8 @@ preempt_sound : (s : Standing) (n : Nexus) (scope kind key : ℕ) → IsSound s 
 preempt_sound s n scope kind key sound e = by (key == 0) (is_of_all s.reservation) (holds_with s.reservation s.pairs key) (list_any (has_key key) s.pairs) refl
   where
     by : (a b c d : Bool) → holds_with s.reservation s.pairs key ≡ c
-        → IsSound (cond a (cond b (taking s n scope kind (λ p. not (is_at n p))) (stays s (refusing 0x26 0))) (cond c (taking s n scope kind (λ p. has_key key p && not (is_at n p)))
-        (cond d (removing s (has_key key) (while_any (but_those (has_key key) s.pairs) s.reservation) preempted None) (stays s Conflict)))).standing
+        → IsSound (cond a (cond b (taking s n scope kind (λ p. not (is_at n p))) (stays s (Bad INVALID_FIELD_IN_PARAMETER_LIST))) (cond c (taking s n scope kind (λ p. has_key key p && not (is_at n p)))
+        (cond d (removing s (has_key key) (while_any (but_those (has_key key) s.pairs) s.reservation) REGISTRATIONS_PREEMPTED None) (stays s Conflict)))).standing
     by true true c d h = taken_sound s n kind (λ p. not (is_at n p)) (if scope == 0 then kind_at kind else None) sound e (λ p a. ap not a)
     by true false c d h = sound
     by false b true d h = taken_sound s n kind (λ p. has_key key p && not (is_at n p)) (if scope == 0 then kind_at kind else None) sound e (λ p a. and_right (has_key key p) (not (is_at n p)) (ap not a))

@@ -7,9 +7,10 @@ use Rattle.pr_words.specs.declared.nexus.Pair.{Pair}
 use Rattle.pr_words.specs.declared.reservation.Kind.{Kind}
 use Rattle.pr_words.specs.declared.reservation.Reservation.TheVariants.{Free}
 use Rattle.pr_words.specs.Kinds.{kind_at, kind_code}
+use Rattle.pr_words.specs.declared.code.TheConstants.Code.{INSUFFICIENT_REGISTRATION_RESOURCES, INVALID_FIELD_IN_PARAMETER_LIST, INVALID_RELEASE_OF_PERSISTENT_RESERVATION, REGISTRATIONS_PREEMPTED}
 use Rattle.pr_grammar.specs.Standings.{Standing, key_of, is_at, is_registered, is_holder, kind_of}
 use Rattle.pr_model.specs.Registrants.{with_pair, pair, but_those, has_key}
-use Rattle.pr_model.specs.Acts.{ReserveOut, Conflict, acted, leads, stays, refusing, key_or_zero, is_own, register, registered, unregistered, holder_left, reserve, reserve_of, reserved, release, release_of, missed, clear, removing, preempt, taking, taken, while_any, preempted, is_of_all, holds_with}
+use Rattle.pr_model.specs.Acts.{ReserveOut, Conflict, acted, leads, stays, key_or_zero, is_own, register, registered, unregistered, holder_left, reserve, reserve_of, reserved, release, release_of, missed, clear, removing, preempt, taking, taken, while_any, is_of_all, holds_with, Bad}
 
 -- a key is put in for a nexus that has one, or where there is room
 abbrev pub PutsIn : ℕ → Standing → Nexus → ℕ → Type 0
@@ -20,7 +21,7 @@ module _ (P : List Pair → Type 0) (limit : ℕ) (s : Standing) (n : Nexus) (sa
   register_pairs key aptpl put = by (key == 0) (is_registered s.pairs n) (nat_lt (length s.pairs) limit) refl refl refl
     where
       by : (a b c : Bool) → (key == 0) ≡ a → is_registered s.pairs n ≡ b → nat_lt (length s.pairs) limit ≡ c
-          → P (if a then (if b then record (leads (unregistered s n aptpl)) { stay_code = holder_left n s.reservation } else leads s) else if not b && not c then stays s (refusing 0x55 0x04) else leads (registered s n key aptpl)).standing.pairs
+          → P (if a then (if b then record (leads (unregistered s n aptpl)) { stay_code = holder_left n s.reservation } else leads s) else if not b && not c then stays s (Bad INSUFFICIENT_REGISTRATION_RESOURCES) else leads (registered s n key aptpl)).standing.pairs
       by true true c e f g = less (is_at n)
       by true false c e f g = same
       by false true c e f g = put (eqb-false key 0 e, inl f)
@@ -43,7 +44,7 @@ module _ (P : List Pair → Type 0) (limit : ℕ) (s : Standing) (n : Nexus) (sa
   release_pairs None scope kind = same
   release_pairs (Some k) scope kind = by (not (is_holder s n)) (scope == 0 && kind_code k == kind)
     where
-      by : (a b : Bool) → P (if a then leads s else if b then record (leads (record s { reservation = Free })) { stay_code = missed k } else stays s (refusing 0x26 0x04)).standing.pairs
+      by : (a b : Bool) → P (if a then leads s else if b then record (leads (record s { reservation = Free })) { stay_code = missed k } else stays s (Bad INVALID_RELEASE_OF_PERSISTENT_RESERVATION)).standing.pairs
       by true b = same
       by false true = same
       by false false = same
@@ -55,8 +56,8 @@ module _ (P : List Pair → Type 0) (limit : ℕ) (s : Standing) (n : Nexus) (sa
   preempt_pairs : (scope kind key : ℕ) → P (preempt s n scope kind key).standing.pairs
   preempt_pairs scope kind key = by (key == 0) (is_of_all s.reservation) (holds_with s.reservation s.pairs key) (list_any (has_key key) s.pairs)
     where
-      by : (a b c d : Bool) → P (if a then (if b then taking s n scope kind (λ p. not (is_at n p)) else stays s (refusing 0x26 0)) else if c then taking s n scope kind (λ p. has_key key p && not (is_at n p)) else
-          if d then removing s (has_key key) (while_any (but_those (has_key key) s.pairs) s.reservation) preempted None else stays s Conflict).standing.pairs
+      by : (a b c d : Bool) → P (if a then (if b then taking s n scope kind (λ p. not (is_at n p)) else stays s (Bad INVALID_FIELD_IN_PARAMETER_LIST)) else if c then taking s n scope kind (λ p. has_key key p && not (is_at n p)) else
+          if d then removing s (has_key key) (while_any (but_those (has_key key) s.pairs) s.reservation) REGISTRATIONS_PREEMPTED None else stays s Conflict).standing.pairs
       by true true c d = taken_pairs kind (λ p. not (is_at n p)) (if scope == 0 then kind_at kind else None)
       by true false c d = same
       by false b true d = taken_pairs kind (λ p. has_key key p && not (is_at n p)) (if scope == 0 then kind_at kind else None)

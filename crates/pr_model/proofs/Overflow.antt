@@ -7,9 +7,9 @@ use Rattle.pr_words.specs.declared.nexus.Side.TheVariants.{Target}
 use Rattle.pr_grammar.specs.Frames.{Frame, Front, Lacking, Broken, Whole, front}
 use Rattle.pr_grammar.specs.Bodies.{login_nexus, login_version, command_cdb, command_data, login_reply}
 use Rattle.pr_words.specs.Fields.{number32_at}
+use Rattle.pr_words.specs.declared.limits.TheConstants.{HELD}
 use Rattle.pr_grammar.proofs.Fronts.{grown, front_more, full_front}
 use Rattle.pr_grammar.proofs.Spellings.{found}
-use Rattle.pr_model.specs.Limits.{HELD}
 use Rattle.pr_model.specs.Entries.{Out, Login_code, Ended, Started, Wrote, Read, Done, Aborted, Fault, Left, Restored, Login, Command, Step, Logout, History}
 use Rattle.pr_model.specs.Lanes.{Job, Phase, Fresh, In, Busy, Dead, AwaitsFrame, Lane, lane, dead, Turned, turned, Turn, Idle, Silent, Asks, turn, turn_at, turn_by, carried, after_step, arrived, after_login, after_command, after_logout, place_after, rejected, replied}
 use Rattle.pr_model.specs.Runs.{Deed, joined, nothing, Makes, TakesTurn, TakesTurns}

@@ -4,6 +4,7 @@ use Rattle.pr_words.specs.declared.nexus.Nexus.{Nexus}
 use Rattle.pr_words.specs.declared.code.Code.{Code}
 use Rattle.pr_words.specs.declared.task.Way.{Way}
 use Rattle.pr_words.specs.declared.task.Way.TheVariants as ways
+use Rattle.pr_words.specs.declared.code.TheConstants.Code.{LOGICAL_UNIT_NOT_SUPPORTED}
 use Rattle.pr_grammar.specs.declared.cdb.Command.{Command}
 use Rattle.pr_grammar.specs.declared.cdb.Command.TheVariants as commands
 use Rattle.pr_grammar.specs.Cdbs.{operation_code, command_of}
@@ -11,7 +12,7 @@ use Rattle.pr_model.specs.Acts.{Verdict, Good, Conflict, Bad}
 use Rattle.pr_model.specs.Worlds.{World, set_at}
 use Rattle.pr_model.specs.Tasks.{new_task}
 use Rattle.pr_model.specs.Entries.{Started}
-use Rattle.pr_model.specs.Commands.{Answer, answer, good, sense_data, unsupported_unit, attention_check, by_verdict, hand_out, served, answered}
+use Rattle.pr_model.specs.Commands.{Answer, answer, good, sense_data, attention_check, by_verdict, hand_out, served, answered}
 use Rattle.pr_model.specs.Laws.{IsRefused, RefusalsChangeLittle, HasOneOutcome}
 use Rattle.pr_model.proofs.Checked.{answer_fits}
 
@@ -24,8 +25,8 @@ hand_out_is_good : (w : World) (n : Nexus) (descriptor : Bool) (allocation : ℕ
 hand_out_is_good w n descriptor allocation [] refused = absurd refused
 hand_out_is_good w n descriptor allocation (c ∷ cs) refused = absurd refused
 
-sense_leaves : (w : World) (n : Nexus) (descriptor : Bool) (allocation : ℕ) (here : Bool) → IsRefused (cond here (hand_out w n descriptor allocation (w.attentions n)) (answer w (good (take allocation (sense_data descriptor unsupported_unit))))).out
-    → (cond here (hand_out w n descriptor allocation (w.attentions n)) (answer w (good (take allocation (sense_data descriptor unsupported_unit))))).world ≡ w
+sense_leaves : (w : World) (n : Nexus) (descriptor : Bool) (allocation : ℕ) (here : Bool) → IsRefused (cond here (hand_out w n descriptor allocation (w.attentions n)) (answer w (good (take allocation (sense_data descriptor LOGICAL_UNIT_NOT_SUPPORTED))))).out
+    → (cond here (hand_out w n descriptor allocation (w.attentions n)) (answer w (good (take allocation (sense_data descriptor LOGICAL_UNIT_NOT_SUPPORTED))))).world ≡ w
 sense_leaves w n descriptor allocation true refused = hand_out_is_good w n descriptor allocation (w.attentions n) refused
 sense_leaves w n descriptor allocation false refused = absurd refused
 

@@ -8,9 +8,10 @@ use Rattle.pr_words.specs.declared.nexus.Pair.{Pair}
 use Rattle.pr_words.specs.declared.reservation.Kind.{Kind}
 use Rattle.pr_words.specs.Kinds.{kind_at}
 use Rattle.pr_words.specs.Orders.{comes_before}
+use Rattle.pr_words.specs.declared.code.TheConstants.Code.{INVALID_FIELD_IN_PARAMETER_LIST, REGISTRATIONS_PREEMPTED}
 use Rattle.pr_grammar.specs.Standings.{Standing, IsAscending, is_at, is_registered, key_of}
 use Rattle.pr_model.specs.Registrants.{has_key, but_those, just_those}
-use Rattle.pr_model.specs.Acts.{Acted, ReserveOut, Conflict, stays, refusing, removing, taken, taking, while_any, preempted, is_own, is_of_all, holds_with, preempt, acted}
+use Rattle.pr_model.specs.Acts.{Acted, ReserveOut, Conflict, stays, removing, taken, taking, while_any, is_own, is_of_all, holds_with, preempt, acted, Bad}
 use Rattle.pr_model.proofs.Orders.{same_is, after_not_same}
 use Rattle.pr_model.proofs.Ascending.{head_up, tail_up}
 use Rattle.pr_model.proofs.Reaching.{filter_registered}
@@ -81,13 +82,13 @@ module _ (s : Standing) (n : Nexus) where
   preempt_parts : (m : Nexus) (scope kind key : ℕ) → Parts s n (preempt s m scope kind key)
   preempt_parts m scope kind key = by (key == 0) (is_of_all s.reservation) (holds_with s.reservation s.pairs key) (list_any (has_key key) s.pairs)
     where
-      by : (a b c d : Bool) → Parts s n (cond a (cond b (taking s m scope kind (λ p. not (is_at m p))) (stays s (refusing 0x26 0)))
+      by : (a b c d : Bool) → Parts s n (cond a (cond b (taking s m scope kind (λ p. not (is_at m p))) (stays s (Bad INVALID_FIELD_IN_PARAMETER_LIST)))
           (cond c (taking s m scope kind (λ p. has_key key p && not (is_at m p)))
-          (cond d (removing s (has_key key) (while_any (but_those (has_key key) s.pairs) s.reservation) preempted None) (stays s Conflict))))
+          (cond d (removing s (has_key key) (while_any (but_those (has_key key) s.pairs) s.reservation) REGISTRATIONS_PREEMPTED None) (stays s Conflict))))
       by true true c d = taken_parts m kind (λ p. not (is_at m p)) (if scope == 0 then kind_at kind else None)
-      by true false c d = nobody (stays s (refusing 0x26 0)) refl refl
+      by true false c d = nobody (stays s (Bad INVALID_FIELD_IN_PARAMETER_LIST)) refl refl
       by false b true d = taken_parts m kind (λ p. has_key key p && not (is_at m p)) (if scope == 0 then kind_at kind else None)
-      by false b false true = those (has_key key) (removing s (has_key key) (while_any (but_those (has_key key) s.pairs) s.reservation) preempted None) refl refl
+      by false b false true = those (has_key key) (removing s (has_key key) (while_any (but_those (has_key key) s.pairs) s.reservation) REGISTRATIONS_PREEMPTED None) refl refl
       by false b false false = nobody (stays s Conflict) refl refl
 
   -- of a PREEMPT AND ABORT

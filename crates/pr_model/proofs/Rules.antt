@@ -7,8 +7,9 @@ use Rattle.pr_words.specs.declared.reservation.Reservation.{Reservation}
 use Rattle.pr_words.specs.declared.reservation.Reservation.TheVariants.{Free, OfOne, OfAll}
 use Rattle.pr_words.specs.Kinds.{kind_at, kind_code}
 use Rattle.pr_words.specs.Orders.{same_nexus}
+use Rattle.pr_words.specs.declared.code.TheConstants.Code.{INSUFFICIENT_REGISTRATION_RESOURCES, INVALID_RELEASE_OF_PERSISTENT_RESERVATION}
 use Rattle.pr_grammar.specs.Standings.{Standing, is_registered, key_of, kind_of, is_holder, is_holder_in}
-use Rattle.pr_model.specs.Acts.{Acted, ReserveOut, Conflict, stays, leads, refusing, key_or_zero, is_own, register, registered, unregistered, holder_left, reserve, reserve_of, reserved, release, release_of, held_code, missed, clear, preempt, acted}
+use Rattle.pr_model.specs.Acts.{Acted, ReserveOut, Conflict, stays, leads, key_or_zero, is_own, register, registered, unregistered, holder_left, reserve, reserve_of, reserved, release, release_of, held_code, missed, clear, preempt, acted, Bad}
 use Rattle.pr_model.specs.Effects.{Rule, Misnamed, Idle, Leaves, Overflows, Registers, Stranger, Reserves, NoSuchKind, HoldsAlready, HeldOtherwise, HoldsNothing, Releases, OtherKind, Clears, Preempts_by, NamesItself, MayRegister, IsRule, effect_of, Acts}
 use Rattle.pr_model.proofs.Cases.{own_key, not_own_key, preempts, alone}
 
@@ -46,7 +47,7 @@ register_effect : (limit : ℕ) (s : Standing) (n : Nexus) (o : ReserveOut) → 
 register_effect limit s n o = by (o.action_key == 0) (is_registered s.pairs n) (not (is_registered s.pairs n) && not (nat_lt (length s.pairs) limit))
   where
     by : (a b c : Bool) → effect_of s n o (if a then (if b then Leaves else Idle) else if c then Overflows else Registers)
-        ≡ (if a then (if b then record (leads (unregistered s n o.aptpl)) { stay_code = holder_left n s.reservation } else leads s) else if c then stays s (refusing 0x55 0x04) else leads (registered s n o.action_key o.aptpl))
+        ≡ (if a then (if b then record (leads (unregistered s n o.aptpl)) { stay_code = holder_left n s.reservation } else leads s) else if c then stays s (Bad INSUFFICIENT_REGISTRATION_RESOURCES) else leads (registered s n o.action_key o.aptpl))
     by true true c = refl
     by true false c = refl
     by false b true = refl
@@ -69,7 +70,7 @@ release_effect None s n o = refl
 release_effect (Some kind) s n o = by (is_holder s n) (o.scope == 0 && kind_code kind == o.kind)
   where
     by : (a b : Bool) → effect_of s n o (if not a then HoldsNothing else if b then Releases kind else OtherKind)
-        ≡ (if not a then leads s else if b then record (leads (record s { reservation = Free })) { stay_code = missed kind } else stays s (refusing 0x26 0x04))
+        ≡ (if not a then leads s else if b then record (leads (record s { reservation = Free })) { stay_code = missed kind } else stays s (Bad INVALID_RELEASE_OF_PERSISTENT_RESERVATION))
     by true true = refl
     by true false = refl
     by false b = refl

@@ -4,6 +4,7 @@ use Rattle.pr_words.specs.declared.nexus.Nexus.{Nexus}
 use Rattle.pr_words.specs.declared.code.Code.{Code}
 use Rattle.pr_words.specs.declared.task.Way.{Way}
 use Rattle.pr_words.specs.declared.task.Way.TheVariants as ways
+use Rattle.pr_words.specs.declared.code.TheConstants.Code.{LOGICAL_UNIT_NOT_SUPPORTED}
 use Rattle.pr_grammar.specs.declared.cdb.Command.{Command}
 use Rattle.pr_grammar.specs.declared.cdb.Command.TheVariants as commands
 use Rattle.pr_grammar.specs.Cdbs.{operation_code, command_of}
@@ -12,7 +13,7 @@ use Rattle.pr_model.specs.Worlds.{Blocks, World, Task, set_at}
 use Rattle.pr_model.specs.Tasks.{new_task, next_block}
 use Rattle.pr_model.specs.Entries as entries
 use Rattle.pr_model.specs.Entries.{Act, Out, Entry, Started}
-use Rattle.pr_model.specs.Commands.{Answer, answer, good, sense_data, unsupported_unit, by_verdict, hand_out, served, answered}
+use Rattle.pr_model.specs.Commands.{Answer, answer, good, sense_data, by_verdict, hand_out, served, answered}
 use Rattle.pr_model.specs.Steps.{failed_block, stepped_in}
 use Rattle.pr_model.specs.Histories.{login_code, logged_in, moved_by}
 use Rattle.pr_model.specs.Laws.{KeepsSize, KeepsTelling}
@@ -36,7 +37,7 @@ hand_out_keeps : (w : World) (n : Nexus) (descriptor : Bool) (allocation : ℕ) 
 hand_out_keeps w n descriptor allocation [] = (refl, refl)
 hand_out_keeps w n descriptor allocation (c ∷ cs) = (refl, refl)
 
-sense_keeps : (w : World) (n : Nexus) (descriptor : Bool) (allocation : ℕ) (here : Bool) → Stays w (cond here (hand_out w n descriptor allocation (w.attentions n)) (answer w (good (take allocation (sense_data descriptor unsupported_unit))))).world
+sense_keeps : (w : World) (n : Nexus) (descriptor : Bool) (allocation : ℕ) (here : Bool) → Stays w (cond here (hand_out w n descriptor allocation (w.attentions n)) (answer w (good (take allocation (sense_data descriptor LOGICAL_UNIT_NOT_SUPPORTED))))).world
 sense_keeps w n descriptor allocation true = hand_out_keeps w n descriptor allocation (w.attentions n)
 sense_keeps w n descriptor allocation false = (refl, refl)
 

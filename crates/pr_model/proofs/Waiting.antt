@@ -9,7 +9,8 @@ use Rattle.std.proofs.lemmas.Map.Keys.{IsDistinct-cons, IsDistinct-tail, IsDisti
 use Rattle.std.proofs.lemmas.Map.Made.{length-le_from_is_member}
 use Rattle.std.proofs.lemmas.Grind.{common_steps}
 use Rattle.pr_words.specs.declared.code.Code.{Code}
-use Rattle.pr_model.specs.Attentions.{powered_on, same_code, attention_codes, is_attention, AreAttentions}
+use Rattle.pr_words.specs.declared.code.TheConstants.Code.{POWER_ON}
+use Rattle.pr_model.specs.Attentions.{same_code, attention_codes, is_attention, AreAttentions}
 
 code_equiv : IsEquivalence same_code
 code_equiv = record { refl = λ x. grind (arith, common_steps); symm = λ x y. grind (arith, common_steps); congr = λ x y z e. grind (arith, common_steps, and_parts, eqb-true) }
@@ -68,9 +69,9 @@ none_distinct : IsDistinct same_code []
 unfolding IsDistinct
 none_distinct = tt
 
-pub fresh_attentions : AreAttentions (powered_on ∷ [])
+pub fresh_attentions : AreAttentions (POWER_ON ∷ [])
 fresh_attentions =
     record {
-      distinct = IsDistinct-cons same_code powered_on [] tt none_distinct;
-      known = All-cons (λ d. is_attention d ≡ true) powered_on [] refl (λ k d lt. absurd (omega arith));
+      distinct = IsDistinct-cons same_code POWER_ON [] tt none_distinct;
+      known = All-cons (λ d. is_attention d ≡ true) POWER_ON [] refl (λ k d lt. absurd (omega arith));
     }

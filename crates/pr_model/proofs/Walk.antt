@@ -12,13 +12,13 @@ use Rattle.pr_words.specs.declared.reservation.Kind.TheVariants.{WriteExclusive,
 use Rattle.pr_words.specs.declared.reservation.Reservation.{Reservation}
 use Rattle.pr_words.specs.declared.reservation.Reservation.TheVariants.{Free, OfOne, OfAll}
 use Rattle.pr_words.specs.declared.role.Role.TheVariants.{Holder, Registered, Stranger}
+use Rattle.pr_words.specs.declared.limits.TheConstants.{LIMIT}
 use Rattle.pr_grammar.specs.declared.cdb.Class.TheVariants.{Writes}
 use Rattle.pr_grammar.specs.Cdbs.{operation_code, command_of}
 use Rattle.pr_grammar.specs.declared.cdb.Command.{Command}
 use Rattle.pr_grammar.specs.declared.cdb.Command.TheVariants as commands
 use Rattle.pr_grammar.specs.OutLists.{list_of}
 use Rattle.pr_grammar.specs.Standings.{Standing, IsAscending, is_registered, kind_of, is_holder, is_holder_in}
-use Rattle.pr_model.specs.Limits.{LIMIT}
 use Rattle.pr_model.specs.Registrants.{IsSound, IsHeldIn, IsWellFormed}
 use Rattle.pr_model.specs.Conflicts.{is_forbidden, conflicts, conflicts_in, role_of}
 use Rattle.pr_model.specs.Acts.{ReserveOut, Verdict, Good, Conflict, Bad, acted}

@@ -10,6 +10,7 @@ use Rattle.pr_words.specs.declared.reservation.Reservation.{Reservation}
 use Rattle.pr_words.specs.declared.reservation.Reservation.TheVariants.{Free, OfOne, OfAll}
 use Rattle.pr_words.specs.Kinds.{kind_at, kind_code}
 use Rattle.pr_words.specs.Orders.{same_nexus}
+use Rattle.pr_words.specs.declared.code.TheConstants.Code.{INSUFFICIENT_REGISTRATION_RESOURCES, INVALID_FIELD_IN_CDB, INVALID_FIELD_IN_PARAMETER_LIST, INVALID_RELEASE_OF_PERSISTENT_RESERVATION, REGISTRATIONS_PREEMPTED, RESERVATIONS_PREEMPTED, RESERVATIONS_RELEASED}
 use Rattle.pr_grammar.specs.Standings.{Standing, is_at, is_registered, key_of, kind_of, is_holder}
 use Rattle.pr_model.specs.Registrants.{pair, has_key, with_pair, but_those, just_those, held}
 
@@ -36,16 +37,6 @@ pub record Acted : Type 0 where
   pub removed_code : Option Code
   pub stay_code : Option Code
 
--- RESERVATIONS PREEMPTED, RESERVATIONS RELEASED, REGISTRATIONS PREEMPTED (SPC-4, unit attentions of persistent reservations)
-abbrev pub cleared : Code
-cleared = record { key = 6; asc = 0x2A; ascq = 3 }
-
-abbrev pub released : Code
-released = record { key = 6; asc = 0x2A; ascq = 4 }
-
-abbrev pub preempted : Code
-preempted = record { key = 6; asc = 0x2A; ascq = 5 }
-
 -- the types that one nexus holds for itself alone
 abbrev pub is_single : Kind → Bool
 is_single WriteExclusive = true
@@ -54,10 +45,7 @@ is_single _ = false
 
 -- the other registrants are told that a reservation ended which they shared
 abbrev pub missed : Kind → Option Code
-missed kind = if is_single kind then None else Some released
-
-abbrev pub refusing : ℕ → ℕ → Verdict
-refusing asc ascq = Bad (record { key = 5; asc = asc; ascq = ascq })
+missed kind = if is_single kind then None else Some RESERVATIONS_RELEASED
 
 abbrev pub stays : Standing → Verdict → Acted
 stays s v = record { standing = s; verdict = v; removed = []; removed_code = None; stay_code = None }
@@ -97,7 +85,7 @@ unregistered s n aptpl =
 abbrev pub register : ℕ → Standing → Nexus → ℕ → Bool → Acted
 register limit s n key aptpl =
     if key == 0 then (if is_registered s.pairs n then record (leads (unregistered s n aptpl)) { stay_code = holder_left n s.reservation } else leads s) else
-    if not (is_registered s.pairs n) && not (nat_lt (length s.pairs) limit) then stays s (refusing 0x55 0x04) else
+    if not (is_registered s.pairs n) && not (nat_lt (length s.pairs) limit) then stays s (Bad INSUFFICIENT_REGISTRATION_RESOURCES) else
     leads (registered s n key aptpl)
 
 -- the key that a REGISTER has to name, which is zero of an unregistered nexus
@@ -107,7 +95,7 @@ key_or_zero (Some k) = k
 
 -- RESERVE
 abbrev pub reserved : Standing → Nexus → Option Kind → Acted
-reserved s n None = stays s (refusing 0x24 0)
+reserved s n None = stays s (Bad INVALID_FIELD_IN_CDB)
 reserved s n (Some k) = leads (record s { reservation = held k n })
 
 abbrev pub reserve_of : Option Kind → Standing → Nexus → ℕ → Acted
@@ -123,7 +111,7 @@ release_of None s n scope kind = leads s
 release_of (Some k) s n scope kind =
     if not (is_holder s n) then leads s else
     if scope == 0 && kind_code k == kind then record (leads (record s { reservation = Free })) { stay_code = missed k } else
-    stays s (refusing 0x26 0x04)
+    stays s (Bad INVALID_RELEASE_OF_PERSISTENT_RESERVATION)
 
 abbrev pub release : Standing → Nexus → ℕ → ℕ → Acted
 release s n scope kind = release_of (kind_of s.reservation) s n scope kind
@@ -141,7 +129,7 @@ removing s goes reservation removed_code stay_code =
 
 -- CLEAR
 abbrev pub clear : Standing → Acted
-clear s = removing s (λ _. true) Free cleared None
+clear s = removing s (λ _. true) Free RESERVATIONS_PREEMPTED None
 
 -- PREEMPT
 
@@ -177,8 +165,8 @@ held_code (OfAll kind) = kind_code kind
 
 -- those that go leave the reservation to the caller, with the asked type
 abbrev pub taken : Standing → Nexus → ℕ → (Pair → Bool) → Option Kind → Acted
-taken s n kind goes None = stays s (refusing 0x24 0)
-taken s n kind goes (Some k) = removing s goes (held k n) preempted (if kind == held_code s.reservation then None else Some released)
+taken s n kind goes None = stays s (Bad INVALID_FIELD_IN_CDB)
+taken s n kind goes (Some k) = removing s goes (held k n) REGISTRATIONS_PREEMPTED (if kind == held_code s.reservation then None else Some RESERVATIONS_RELEASED)
 
 abbrev pub taking : Standing → Nexus → ℕ → ℕ → (Pair → Bool) → Acted
 taking s n scope kind goes = taken s n kind goes (if scope == 0 then kind_at kind else None)
@@ -186,10 +174,10 @@ taking s n scope kind goes = taken s n kind goes (if scope == 0 then kind_at kin
 abbrev pub preempt : Standing → Nexus → ℕ → ℕ → ℕ → Acted
 preempt s n scope kind key =
     if key == 0 then
-    (if is_of_all s.reservation then taking s n scope kind (λ p. not (is_at n p)) else stays s (refusing 0x26 0)) else
+    (if is_of_all s.reservation then taking s n scope kind (λ p. not (is_at n p)) else stays s (Bad INVALID_FIELD_IN_PARAMETER_LIST)) else
     if is_holders_key s key then taking s n scope kind (λ p. has_key key p && not (is_at n p)) else
     if list_any (has_key key) s.pairs then
-    removing s (has_key key) (while_any (but_those (has_key key) s.pairs) s.reservation) preempted None else
+    removing s (has_key key) (while_any (but_those (has_key key) s.pairs) s.reservation) REGISTRATIONS_PREEMPTED None else
     stays s Conflict
 
 -- the check of the registration, and the rules of the service action; the actions are 00h to 06h

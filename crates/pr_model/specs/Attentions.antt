@@ -5,12 +5,9 @@ use Rattle.pr_words.specs.declared.nexus.Nexus.{Nexus}
 use Rattle.pr_words.specs.declared.nexus.Pair.{Pair}
 use Rattle.pr_words.specs.declared.code.Code.{Code}
 use Rattle.pr_words.specs.Orders.{same_nexus}
+use Rattle.pr_words.specs.declared.code.TheConstants.Code.{POWER_ON, REGISTRATIONS_PREEMPTED, RESERVATIONS_PREEMPTED, RESERVATIONS_RELEASED}
 use Rattle.pr_grammar.specs.Standings.{is_registered}
-use Rattle.pr_model.specs.Acts.{Acted, cleared, released, preempted}
-
--- POWER ON, RESET, OR BUS DEVICE RESET OCCURRED
-abbrev pub powered_on : Code
-powered_on = record { key = 6; asc = 0x29; ascq = 0 }
+use Rattle.pr_model.specs.Acts.{Acted}
 
 abbrev pub same_code : Code → Code → Bool
 same_code a b = a.key == b.key && a.asc == b.asc && a.ascq == b.ascq
@@ -38,7 +35,7 @@ told caller a lists =
 
 -- the unit attention conditions that this target establishes
 abbrev pub attention_codes : List Code
-attention_codes = powered_on ∷ cleared ∷ released ∷ preempted ∷ []
+attention_codes = POWER_ON ∷ RESERVATIONS_PREEMPTED ∷ RESERVATIONS_RELEASED ∷ REGISTRATIONS_PREEMPTED ∷ []
 
 abbrev pub is_attention : Code → Bool
 is_attention c = list_any (same_code c) attention_codes

@@ -5,9 +5,10 @@ use Rattle.pr_words.specs.declared.nexus.Nexus.{Nexus}
 use Rattle.pr_words.specs.declared.nexus.Pair.{Pair}
 use Rattle.pr_words.specs.declared.reservation.Reservation.{Reservation}
 use Rattle.pr_words.specs.declared.reservation.Reservation.TheVariants.{Free, OfOne, OfAll}
+use Rattle.pr_words.specs.declared.code.TheConstants.Code.{INVALID_FIELD_IN_PARAMETER_LIST, REGISTRATIONS_PREEMPTED}
 use Rattle.pr_grammar.specs.Standings.{Standing, is_at, key_of}
 use Rattle.pr_model.specs.Registrants.{has_key, but_those}
-use Rattle.pr_model.specs.Acts.{Acted, stays, refusing, removing, taking, while_any, preempted, Conflict}
+use Rattle.pr_model.specs.Acts.{Acted, stays, removing, taking, while_any, Conflict, Bad}
 
 -- no key is named and no reservation of all registrants is held; so, and one is; the holder's key; a key of others; a key that nobody has
 pub data Case : Type 0 where
@@ -47,10 +48,10 @@ Applies s k NobodysKey = (k ≡ 0 → ⊥) × (IsHoldersKey s k → ⊥) × (IsS
 
 -- what a nexus's PREEMPT does in a case, by the scope and the type of the CDB and by the key
 abbrev pub effect : Standing → Nexus → ℕ → ℕ → ℕ → Case → Acted
-effect s n scope kind k Unnamed = stays s (refusing 0x26 0)
+effect s n scope kind k Unnamed = stays s (Bad INVALID_FIELD_IN_PARAMETER_LIST)
 effect s n scope kind k AllTaken = taking s n scope kind (λ p. not (is_at n p))
 effect s n scope kind k HolderTaken = taking s n scope kind (λ p. has_key k p && not (is_at n p))
-effect s n scope kind k KeyRemoved = removing s (has_key k) (while_any (but_those (has_key k) s.pairs) s.reservation) preempted None
+effect s n scope kind k KeyRemoved = removing s (has_key k) (while_any (but_those (has_key k) s.pairs) s.reservation) REGISTRATIONS_PREEMPTED None
 effect s n scope kind k NobodysKey = stays s Conflict
 
 -- what a PREEMPT does: the effect of a case that applies

@@ -7,6 +7,8 @@ use Rattle.pr_words.specs.declared.task.Way.{Way}
 use Rattle.pr_words.specs.declared.task.Way.TheVariants as ways
 use Rattle.pr_words.specs.Kinds.{kind_at}
 use Rattle.pr_words.specs.Services.{in_service_at, out_service_at}
+use Rattle.pr_words.specs.declared.code.TheConstants.Code.{INVALID_COMMAND_OPERATION_CODE, INVALID_FIELD_IN_CDB, INVALID_FIELD_IN_PARAMETER_LIST, LOGICAL_BLOCK_ADDRESS_OUT_OF_RANGE, LOGICAL_UNIT_NOT_SUPPORTED, NO_SENSE, PARAMETER_LIST_LENGTH_ERROR}
+use Rattle.pr_words.specs.declared.limits.TheConstants.{LIMIT, TRANSFER, BLOCK}
 use Rattle.pr_grammar.specs.Standings.{Standing}
 use Rattle.pr_grammar.specs.Senses.{fixed_sense, descriptor_sense}
 use Rattle.pr_grammar.specs.declared.cdb.Command.{Command}
@@ -16,8 +18,7 @@ use Rattle.pr_grammar.specs.Cdbs.{operation_code, is_naca, command_of}
 use Rattle.pr_grammar.specs.declared.param.OutList.{OutList}
 use Rattle.pr_grammar.specs.OutLists.{list_of}
 use Rattle.pr_grammar.specs.InReplies.{keys_reply, reservation_reply, capabilities_reply, full_reply}
-use Rattle.pr_grammar.specs.Pages.{block_length, standard_inquiry, vital_page_at, capacity_10, capacity_16, report_luns}
-use Rattle.pr_model.specs.Limits.{LIMIT, TRANSFER}
+use Rattle.pr_grammar.specs.Pages.{standard_inquiry, vital_page_at, capacity_10, capacity_16, report_luns}
 use Rattle.pr_model.specs.Acts as acts
 use Rattle.pr_model.specs.Acts.{Acted, Verdict, Good, Conflict, Bad, acted}
 use Rattle.pr_model.specs.Conflicts.{is_forbidden}
@@ -34,9 +35,6 @@ pub record Answer : Type 0 where
 abbrev pub answer : World → Out → Answer
 answer w out = record { world = w; out = out }
 
-abbrev pub code : ℕ → ℕ → ℕ → Code
-code key asc ascq = record { key = key; asc = asc; ascq = ascq }
-
 -- CHECK CONDITION
 abbrev pub checking : Code → Out
 checking c = Ended status.CheckCondition (Some (record { code = c; info = None })) []
@@ -46,28 +44,6 @@ good data_in = Ended status.Good None data_in
 
 abbrev pub conflict : Out
 conflict = Ended status.ReservationConflict None []
-
--- LOGICAL UNIT NOT SUPPORTED, INVALID COMMAND OPERATION CODE, INVALID FIELD IN CDB, LOGICAL BLOCK ADDRESS OUT OF RANGE, PARAMETER LIST LENGTH ERROR, INVALID FIELD IN PARAMETER LIST, and no sense
-abbrev pub unsupported_unit : Code
-unsupported_unit = code 5 0x25 0
-
-abbrev pub invalid_operation : Code
-invalid_operation = code 5 0x20 0
-
-abbrev pub invalid_field : Code
-invalid_field = code 5 0x24 0
-
-abbrev pub out_of_range : Code
-out_of_range = code 5 0x21 0
-
-abbrev pub list_length_error : Code
-list_length_error = code 5 0x1A 0
-
-abbrev pub invalid_list : Code
-invalid_list = code 5 0x26 0
-
-abbrev pub no_sense : Code
-no_sense = code 0 0 0
 
 -- The checks of a command
 
@@ -87,11 +63,11 @@ attention_check w n op (c ∷ cs) =
 
 -- by the logical unit, and by what waits to be reported
 abbrev pub unit_checks : World → Nexus → ℕ → ℕ → List (Option Answer)
-unit_checks w n lun op = refused_where (is_elsewhere lun op) w unsupported_unit ∷ attention_check w n op (w.attentions n) ∷ []
+unit_checks w n lun op = refused_where (is_elsewhere lun op) w LOGICAL_UNIT_NOT_SUPPORTED ∷ attention_check w n op (w.attentions n) ∷ []
 
 -- by the operation code, of which there are thirteen
 abbrev pub operation_checks : World → ℕ → List (Option Answer)
-operation_checks w op = refused_where (not (is_some (operation_at op))) w invalid_operation ∷ []
+operation_checks w op = refused_where (not (is_some (operation_at op))) w INVALID_COMMAND_OPERATION_CODE ∷ []
 
 -- by the reservation, which may forbid what the operation code does (SPC-4 and SBC-3, the tables of commands that conflict)
 abbrev pub conflict_where : Bool → World → Option Answer
@@ -103,13 +79,13 @@ conflict_checks w n op = conflict_where (is_forbidden w.standing n (class_of op)
 -- by the CDB's form: its length, and NACA, which isn't supported (SPC-4, control byte)
 abbrev pub form_checks : World → ℕ → List ℕ → List (Option Answer)
 form_checks w op cdb =
-    refused_where (nat_lt (length cdb) (length_of op)) w invalid_field
-    ∷ refused_where (is_naca (length_of op - 1) cdb) w invalid_field
+    refused_where (nat_lt (length cdb) (length_of op)) w INVALID_FIELD_IN_CDB
+    ∷ refused_where (is_naca (length_of op - 1) cdb) w INVALID_FIELD_IN_CDB
     ∷ []
 
 -- by the length of the data-out, which is the one that the CDB announces
 abbrev pub length_check : World → ℕ → List ℕ → Option Answer
-length_check w announced sent = refused_where (not (length sent == announced)) w list_length_error
+length_check w announced sent = refused_where (not (length sent == announced)) w PARAMETER_LIST_LENGTH_ERROR
 
 -- a service action that isn't supported, or a RESERVE whose scope isn't the logical unit's or whose type is none of the six
 abbrev pub has_bad_service : ℕ → ℕ → ℕ → Bool
@@ -133,35 +109,35 @@ is_beyond w lba count = nat_lt w.medium.count (lba + count)
 -- of READ and WRITE: protection isn't supported; so many blocks at once aren't, which is this project's own; the blocks are there
 abbrev pub transfer_checks : World → ℕ → ℕ → ℕ → List (Option Answer)
 transfer_checks w protect lba count =
-    refused_where (not (protect == 0)) w invalid_field
-    ∷ refused_where (nat_lt TRANSFER count) w invalid_field
-    ∷ refused_where (is_beyond w lba count) w out_of_range
+    refused_where (not (protect == 0)) w INVALID_FIELD_IN_CDB
+    ∷ refused_where (nat_lt TRANSFER count) w INVALID_FIELD_IN_CDB
+    ∷ refused_where (is_beyond w lba count) w LOGICAL_BLOCK_ADDRESS_OUT_OF_RANGE
     ∷ []
 
 -- by the command's own fields, by its data-out's length, and by its parameter list, which has 24 bytes, since none with SPEC_I_PT is supported
 abbrev pub command_checks : World → Command → List ℕ → List (Option Answer)
 command_checks w (ReserveOut action scope kind list) sent =
-    refused_where (has_bad_service action scope kind) w invalid_field
+    refused_where (has_bad_service action scope kind) w INVALID_FIELD_IN_CDB
     ∷ length_check w list sent
-    ∷ refused_where (not (list == 24)) w list_length_error
-    ∷ refused_where (has_bad_list action (list_of sent)) w invalid_list
+    ∷ refused_where (not (list == 24)) w PARAMETER_LIST_LENGTH_ERROR
+    ∷ refused_where (has_bad_list action (list_of sent)) w INVALID_FIELD_IN_PARAMETER_LIST
     ∷ []
 command_checks w (ReserveIn action allocation) sent =
-    refused_where (not (is_some (in_service_at action))) w invalid_field ∷ length_check w 0 sent ∷ []
+    refused_where (not (is_some (in_service_at action))) w INVALID_FIELD_IN_CDB ∷ length_check w 0 sent ∷ []
 command_checks w TestUnitReady sent = length_check w 0 sent ∷ []
 command_checks w (RequestSense descriptor allocation) sent = length_check w 0 sent ∷ []
 command_checks w (Inquiry vital page allocation) sent =
-    refused_where (not (is_some (inquiry_data vital page true))) w invalid_field ∷ length_check w 0 sent ∷ []
+    refused_where (not (is_some (inquiry_data vital page true))) w INVALID_FIELD_IN_CDB ∷ length_check w 0 sent ∷ []
 command_checks w ReadCapacity10 sent = length_check w 0 sent ∷ []
 command_checks w (ReadCapacity16 action allocation) sent =
-    refused_where (not (action == 0x10)) w invalid_field ∷ length_check w 0 sent ∷ []
+    refused_where (not (action == 0x10)) w INVALID_FIELD_IN_CDB ∷ length_check w 0 sent ∷ []
 command_checks w (ReportLuns select allocation) sent =
-    refused_where (not (is_some (report_luns select))) w invalid_field ∷ length_check w 0 sent ∷ []
+    refused_where (not (is_some (report_luns select))) w INVALID_FIELD_IN_CDB ∷ length_check w 0 sent ∷ []
 command_checks w (Read wide protect lba count) sent = transfer_checks w protect lba count ++ length_check w 0 sent ∷ []
 command_checks w (Write wide protect lba count) sent =
-    transfer_checks w protect lba count ++ length_check w (block_length * count) sent ∷ []
+    transfer_checks w protect lba count ++ length_check w (BLOCK * count) sent ∷ []
 command_checks w (SynchronizeCache lba count) sent =
-    refused_where (is_beyond w lba count) w out_of_range ∷ length_check w 0 sent ∷ []
+    refused_where (is_beyond w lba count) w LOGICAL_BLOCK_ADDRESS_OUT_OF_RANGE ∷ length_check w 0 sent ∷ []
 
 -- the order of refusals (this project's own): unit, operation code, reservation, form, command
 abbrev pub checks : World → Nexus → ℕ → ℕ → List ℕ → Command → List ℕ → List (Option Answer)
@@ -182,14 +158,14 @@ sense_data descriptor c = if descriptor then descriptor_sense c else fixed_sense
 
 -- REQUEST SENSE hands out the attention that is reported first, which goes, whatever its allocation length
 abbrev pub hand_out : World → Nexus → Bool → ℕ → List Code → Answer
-hand_out w n descriptor allocation [] = answer w (good (take allocation (sense_data descriptor no_sense)))
+hand_out w n descriptor allocation [] = answer w (good (take allocation (sense_data descriptor NO_SENSE)))
 hand_out w n descriptor allocation (c ∷ cs) =
     answer (record w { attentions = set_at w.attentions n cs }) (good (take allocation (sense_data descriptor c)))
 
 abbrev pub request_sense : World → Nexus → ℕ → Bool → ℕ → Answer
 request_sense w n lun descriptor allocation =
     if lun == 0 then hand_out w n descriptor allocation (w.attentions n) else
-    answer w (good (take allocation (sense_data descriptor unsupported_unit)))
+    answer w (good (take allocation (sense_data descriptor LOGICAL_UNIT_NOT_SUPPORTED)))
 
 -- PERSISTENT RESERVE IN: READ KEYS, READ RESERVATION, REPORT CAPABILITIES, READ FULL STATUS
 abbrev pub reserve_in_data : ℕ → Standing → List ℕ

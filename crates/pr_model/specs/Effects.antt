@@ -4,9 +4,10 @@ use Rattle.pr_words.specs.declared.nexus.Nexus.{Nexus}
 use Rattle.pr_words.specs.declared.reservation.Kind.{Kind}
 use Rattle.pr_words.specs.declared.reservation.Reservation.TheVariants.{Free}
 use Rattle.pr_words.specs.Kinds.{kind_at}
+use Rattle.pr_words.specs.declared.code.TheConstants.Code.{INSUFFICIENT_REGISTRATION_RESOURCES, INVALID_FIELD_IN_CDB, INVALID_RELEASE_OF_PERSISTENT_RESERVATION}
 use Rattle.pr_grammar.specs.Standings.{Standing, is_registered, key_of, kind_of, is_holder}
 use Rattle.pr_model.specs.Registrants.{held}
-use Rattle.pr_model.specs.Acts.{Acted, ReserveOut, Conflict, stays, leads, refusing, key_or_zero, registered, unregistered, holder_left, held_code, missed, clear}
+use Rattle.pr_model.specs.Acts.{Acted, ReserveOut, Conflict, stays, leads, key_or_zero, registered, unregistered, holder_left, held_code, missed, clear, Bad}
 use Rattle.pr_model.specs.Cases.{Case, Applies, effect}
 
 -- REGISTER names another key, does nothing, unregisters, finds no room, registers; a caller of another action doesn't name its own key; RESERVE reserves, has no such type, holds already, finds another reservation; RELEASE holds nothing, releases, names another scope or type; CLEAR; PREEMPT by a case
@@ -62,16 +63,16 @@ abbrev pub effect_of : Standing → Nexus → ReserveOut → Rule → Acted
 effect_of s n o Misnamed = stays s Conflict
 effect_of s n o Idle = leads s
 effect_of s n o Leaves = record (leads (unregistered s n o.aptpl)) { stay_code = holder_left n s.reservation }
-effect_of s n o Overflows = stays s (refusing 0x55 0x04)
+effect_of s n o Overflows = stays s (Bad INSUFFICIENT_REGISTRATION_RESOURCES)
 effect_of s n o Registers = leads (registered s n o.action_key o.aptpl)
 effect_of s n o Stranger = stays s Conflict
 effect_of s n o (Reserves kind) = leads (record s { reservation = held kind n })
-effect_of s n o NoSuchKind = stays s (refusing 0x24 0)
+effect_of s n o NoSuchKind = stays s (Bad INVALID_FIELD_IN_CDB)
 effect_of s n o HoldsAlready = leads s
 effect_of s n o HeldOtherwise = stays s Conflict
 effect_of s n o HoldsNothing = leads s
 effect_of s n o (Releases kind) = record (leads (record s { reservation = Free })) { stay_code = missed kind }
-effect_of s n o OtherKind = stays s (refusing 0x26 0x04)
+effect_of s n o OtherKind = stays s (Bad INVALID_RELEASE_OF_PERSISTENT_RESERVATION)
 effect_of s n o Clears = clear s
 effect_of s n o (Preempts_by how) = effect s n o.scope o.kind o.action_key how
 

@@ -5,6 +5,8 @@ use Rattle.pr_words.specs.declared.code.Status.TheVariants as status
 use Rattle.pr_words.specs.declared.task.Way.TheVariants as ways
 use Rattle.pr_words.specs.declared.reservation.Kind.TheVariants.{WriteExclusive, ExclusiveRegistrants}
 use Rattle.pr_words.specs.declared.reservation.Reservation.TheVariants.{OfOne}
+use Rattle.pr_words.specs.declared.code.TheConstants.Code.{INVALID_FIELD_IN_CDB, LOGICAL_BLOCK_ADDRESS_OUT_OF_RANGE, PARAMETER_LIST_LENGTH_ERROR, WRITE_ERROR}
+use Rattle.pr_words.specs.declared.limits.TheConstants.{LIMIT}
 use Rattle.pr_grammar.specs.declared.cdb.Command.{Command}
 use Rattle.pr_grammar.specs.declared.cdb.Command.TheVariants as commands
 use Rattle.pr_grammar.specs.Bodies.{command_reply}
@@ -14,9 +16,8 @@ use Rattle.pr_model.specs.Registrants.{pair}
 use Rattle.pr_model.specs.Worlds.{Blocks, World, opened, set_at}
 use Rattle.pr_model.specs.Tasks.{new_task, aborted}
 use Rattle.pr_model.specs.Entries.{Started, Wrote, Read, Done, Aborted, Fault, Step, entry}
-use Rattle.pr_model.specs.Commands.{Answer, answer, checking, good, conflict, invalid_field, out_of_range, list_length_error, code, conflict_checks, command_checks, first_or, served, reserve_out}
+use Rattle.pr_model.specs.Commands.{Answer, answer, checking, good, conflict, conflict_checks, command_checks, first_or, served, reserve_out}
 use Rattle.pr_model.specs.Acts.{acted}
-use Rattle.pr_model.specs.Limits.{LIMIT}
 use Rattle.pr_model.specs.Histories.{moved}
 use Rattle.pr_model.specs.Lanes.{Job, In, Busy, lane, turned, after_step}
 
@@ -42,12 +43,12 @@ asked command sent = first_or (command_checks nobody command sent) (served nobod
 
 -- READ and WRITE of 2,048 blocks
 pub record Transfers : Type 0 where
-  pub too_many : asked (commands.Read false 0 0 1025) [] ≡ answer nobody (checking invalid_field)
-  pub protected : asked (commands.Read false 1 0 1) [] ≡ answer nobody (checking invalid_field)
-  pub beyond : asked (commands.Read false 0 2047 2) [] ≡ answer nobody (checking out_of_range)
+  pub too_many : asked (commands.Read false 0 0 1025) [] ≡ answer nobody (checking INVALID_FIELD_IN_CDB)
+  pub protected : asked (commands.Read false 1 0 1) [] ≡ answer nobody (checking INVALID_FIELD_IN_CDB)
+  pub beyond : asked (commands.Read false 0 2047 2) [] ≡ answer nobody (checking LOGICAL_BLOCK_ADDRESS_OUT_OF_RANGE)
   pub none_at_the_end : asked (commands.Read false 0 2048 0) [] ≡ answer nobody (good [])
-  pub far_beyond : asked (commands.Read true 0 0xFFFFFFFFFFFFFFFF 1) [] ≡ answer nobody (checking out_of_range)
-  pub without_data : asked (commands.Write false 0 0 1) [] ≡ answer nobody (checking list_length_error)
+  pub far_beyond : asked (commands.Read true 0 0xFFFFFFFFFFFFFFFF 1) [] ≡ answer nobody (checking LOGICAL_BLOCK_ADDRESS_OUT_OF_RANGE)
+  pub without_data : asked (commands.Write false 0 0 1) [] ≡ answer nobody (checking PARAMETER_LIST_LENGTH_ERROR)
   pub begins : asked (commands.Read false 0 5 8) [] ≡ answer (record nobody { task = set_at nobody.task a (Some (new_task ways.Read 5 8)) }) (Started ways.Read)
 
 -- B holds Exclusive Access, Registrants Only, and A isn't registered; B holds Write Exclusive, and A is registered
@@ -83,7 +84,7 @@ pub record Steps : Type 0 where
   pub wrote : (moved writing (entry 0 a (Step (replicate 512 7)) Wrote)).medium.at 0 ≡ Some (replicate 512 7)
   pub others : (moved writing (entry 0 a (Step (replicate 512 7)) Wrote)).medium.at 1 ≡ None
   pub next : (moved writing (entry 0 a (Step (replicate 512 7)) Wrote)).task a ≡ Some (record (new_task ways.Write 0 8) { done = 1 })
-  pub failed : (moved writing (entry 0 a (Step (replicate 512 7)) (Fault (code 3 0x0C 0)))).task a ≡ None
+  pub failed : (moved writing (entry 0 a (Step (replicate 512 7)) (Fault WRITE_ERROR))).task a ≡ None
 
 -- a READ of A with tag 9, of which these bytes were read
 abbrev pub job : List ℕ → Job

@@ -7,9 +7,9 @@ use Rattle.pr_words.specs.declared.code.Status.{Status}
 use Rattle.pr_words.specs.declared.code.Status.TheVariants as status
 use Rattle.pr_words.specs.declared.task.Way.{Way}
 use Rattle.pr_words.specs.declared.task.Way.TheVariants as ways
+use Rattle.pr_words.specs.declared.limits.TheConstants.{BLOCK}
 use Rattle.pr_grammar.specs.Bodies.{login_version, login_nexus, command_cdb, command_data, login_reply, command_reply, reject}
 use Rattle.pr_grammar.specs.Frames.{Frame, Front, Lacking, Broken, Whole, front, frame, frame_size, spelled}
-use Rattle.pr_grammar.specs.Pages.{block_length}
 use Rattle.pr_model.specs.Entries.{Act, Login, Command, Step, Logout, Out, Login_code, Ended, Started, Wrote, Read, Done, Aborted, Fault}
 
 -- a task of the session: the LUN and the tag that its reply repeats, and the bytes that a WRITE has yet to carry, or that a READ has read so far
@@ -101,7 +101,7 @@ after_command n f rest place _ = turned dead []
 -- the bytes that a task's next step carries: of a WRITE the next block of its data-out
 abbrev pub carried_by : Way → List ℕ → List ℕ
 carried_by ways.Read bytes = []
-carried_by ways.Write bytes = take block_length bytes
+carried_by ways.Write bytes = take BLOCK bytes
 
 abbrev pub carried : Job → List ℕ
 carried j = carried_by j.way j.bytes
@@ -121,7 +121,7 @@ answered_task n j rest place status sense data_in =
 
 -- a step: its task goes on, or has ended, and its command is answered; data comes with GOOD alone
 abbrev pub after_step : Nexus → Job → List ℕ → ℕ → Out → Turned
-after_step n j rest place Wrote = turned (lane rest (Busy n (with_bytes j (drop block_length j.bytes))) place) []
+after_step n j rest place Wrote = turned (lane rest (Busy n (with_bytes j (drop BLOCK j.bytes))) place) []
 after_step n j rest place (Read block) = turned (lane rest (Busy n (with_bytes j (j.bytes ++ block))) place) []
 after_step n j rest place Done = answered_task n j rest place status.Good None (read_by j.way j.bytes)
 after_step n j rest place Aborted = answered_task n j rest place status.TaskAborted None []

@@ -4,19 +4,20 @@ use Rattle.pr_words.specs.declared.nexus.Nexus.{Nexus}
 use Rattle.pr_words.specs.declared.code.Status.TheVariants as status
 use Rattle.pr_words.specs.declared.reservation.Kind.{Kind}
 use Rattle.pr_words.specs.declared.reservation.Reservation.TheVariants.{OfAll}
+use Rattle.pr_words.specs.declared.code.TheConstants.Code.{INTERNAL_TARGET_FAILURE}
+use Rattle.pr_words.specs.declared.limits.TheConstants.{HELD, LIMIT}
 use Rattle.pr_grammar.specs.declared.cdb.Class.{Class}
 use Rattle.pr_grammar.specs.declared.cdb.Class.TheVariants.{Free}
 use Rattle.pr_grammar.specs.Cdbs.{operation_code}
 use Rattle.pr_grammar.specs.Standings.{Standing, is_holder, is_registered}
 use Rattle.pr_model.specs.Conflicts.{is_forbidden}
 use Rattle.pr_model.specs.Registrants.{IsSound, IsWellFormed}
-use Rattle.pr_model.specs.Limits.{HELD, LIMIT}
 use Rattle.pr_model.specs.Keeping.{Kept, kept, same_kept, is_empty}
 use Rattle.pr_model.specs.Acts.{Acted, Good}
 use Rattle.pr_model.specs.Worlds.{World, restored}
 use Rattle.pr_model.specs.Entries.{Act, Command, Step, History, Out, Login_code, Ended, Started, Wrote, Read, Done, Aborted, Fault, Left, Restored, Entry, entry}
 use Rattle.pr_model.specs.Commands.{attention_check, answered, checking, reserve_out}
-use Rattle.pr_model.specs.Saving.{asks_to_save, settled, target_failure}
+use Rattle.pr_model.specs.Saving.{asks_to_save, settled}
 use Rattle.pr_model.specs.Histories.{Has, MayFollow, moved, after, failures_in, IsLegalFrom}
 use Rattle.pr_model.specs.Stamps.{Bytes, RestoresSome, KeepsSome}
 use Rattle.pr_model.specs.Fencing.{Began, WasFenced, IsFenced}
@@ -56,7 +57,7 @@ HasOneOutcome =
     (w : World) (who : ℕ) (n : Nexus) (lun : ℕ) (cdb sent : List ℕ) → Has w who n → w.task n ≡ None
     → (out : Out) × MayFollow w (entry who n (Command lun cdb sent) out)
     × ((other : Out) → MayFollow w (entry who n (Command lun cdb sent) other)
-    → (other ≡ out) ⊎ ((asks_to_save w (answered w n lun cdb sent) ≡ true) × (other ≡ checking target_failure)))
+    → (other ≡ out) ⊎ ((asks_to_save w (answered w n lun cdb sent) ≡ true) × (other ≡ checking INTERNAL_TARGET_FAILURE)))
 
 -- no entry changes how many blocks the medium has
 abbrev pub KeepsSize : Type 0

@@ -1,4 +1,3 @@
-pub mod Limits
 pub mod Registrants
 pub mod Acts
 pub mod Conflicts

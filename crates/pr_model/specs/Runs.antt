@@ -1,8 +1,8 @@
 -- Whole runs: the records of a schedule act one after another, and lanes take turns (this project's own).
 use Rattle.std.specs.Prelude.{◌≡◌, ◌⊎◌, ℕ, zero, suc, ◌<◌, ◌≤◌, List, [], ◌∷◌, ◌++◌, length, slice_get, slice_set, replicate, Some}
+use Rattle.pr_words.specs.declared.limits.TheConstants.{HELD}
 use Rattle.pr_grammar.specs.Schedules.{Record, Arrival, Step_of, Close_of, Power_loss, lane_of}
 use Rattle.pr_grammar.specs.Outputs.{output_of}
-use Rattle.pr_model.specs.Limits.{HELD}
 use Rattle.pr_model.specs.Keeping.{Kept}
 use Rattle.pr_model.specs.Entries.{Logout, Out, Left, History, entry, power_up}
 use Rattle.pr_model.specs.Lanes.{Phase, In, Busy, Lane, fresh, Turn, Idle, Silent, Asks, turn, arrived}

@@ -2,13 +2,14 @@
 use Rattle.std.specs.Prelude.{◌≡◌, ◌⊎◌, ◌&&◌, not, Bool, true, false, List, [], ◌∷◌, ◌++◌, Some, if◌then◌else◌}
 use Rattle.pr_words.specs.declared.code.Code.{Code}
 use Rattle.pr_words.specs.declared.code.Status.TheVariants as status
+use Rattle.pr_words.specs.declared.code.TheConstants.Code.{INTERNAL_TARGET_FAILURE}
+use Rattle.pr_words.specs.declared.limits.TheConstants.{LIMIT}
 use Rattle.pr_model.specs.Keeping.{Kept, kept, same_kepts, IsIn}
 use Rattle.pr_model.specs.Attentions.{same_code}
-use Rattle.pr_model.specs.Limits.{LIMIT}
 use Rattle.pr_model.specs.Registrants.{IsWellFormed}
 use Rattle.pr_model.specs.Worlds.{World, restored}
 use Rattle.pr_model.specs.Entries.{Out, Ended, Restored}
-use Rattle.pr_model.specs.Commands.{Answer, code, checking}
+use Rattle.pr_model.specs.Commands.{Answer, checking}
 
 -- what a power loss may restore: what is kept, or one of the doubts
 abbrev pub restorable : World → List Kept
@@ -23,12 +24,8 @@ MayRestore w _ = ⊥
 abbrev pub asks_to_save : World → Answer → Bool
 asks_to_save w a = not (same_kepts (restorable w) (restorable a.world))
 
--- INTERNAL TARGET FAILURE
-abbrev pub target_failure : Code
-target_failure = code 4 0x44 0
-
 abbrev pub tells_failure : Out → Bool
-tells_failure (Ended status.CheckCondition (Some sense) data_in) = same_code sense.code target_failure
+tells_failure (Ended status.CheckCondition (Some sense) data_in) = same_code sense.code INTERNAL_TARGET_FAILURE
 tells_failure _ = false
 
 -- the save that a command asked for has failed
@@ -45,4 +42,4 @@ settled w a out = if is_unsaved w a out then doubted w a else a.world
 
 -- a command ends as it is answered, or with a save that failed
 abbrev pub MayAnswer : World → Answer → Out → Type 0
-MayAnswer w a out = (out ≡ a.out) ⊎ ((asks_to_save w a ≡ true) × (out ≡ checking target_failure))
+MayAnswer w a out = (out ≡ a.out) ⊎ ((asks_to_save w a ≡ true) × (out ≡ checking INTERNAL_TARGET_FAILURE))

@@ -3,7 +3,7 @@ use Rattle.std.specs.Prelude.{◌≡◌, ℕ, ◌==◌, true, false, List, lengt
 use Rattle.pr_words.specs.declared.nexus.Nexus.{Nexus}
 use Rattle.pr_words.specs.declared.task.Way.{Way}
 use Rattle.pr_words.specs.declared.task.Way.TheVariants as ways
-use Rattle.pr_grammar.specs.Pages.{block_length}
+use Rattle.pr_words.specs.declared.limits.TheConstants.{BLOCK}
 use Rattle.pr_model.specs.Worlds.{Blocks, World, Task, set_at}
 use Rattle.pr_model.specs.Tasks.{IsUnderWay, next_block, advanced, medium_error}
 use Rattle.pr_model.specs.Entries.{Out, Login_code, Ended, Started, Wrote, Read, Done, Aborted, Fault, Left, Restored}
@@ -14,8 +14,8 @@ MayGive m lba bytes = m.tells ≡ true → (known : List ℕ) → m.at lba ≡ S
 
 -- which outcomes a step of a task may have, with the bytes that it carries: a marked task ends with Aborted; else a block is moved, or the medium fails, while blocks are left; else the task is done
 abbrev pub MayStep : Blocks → Task → List ℕ → Out → Type 0
-MayStep m t sent Wrote = IsUnderWay t × (t.way ≡ ways.Write) × (length sent ≡ block_length)
-MayStep m t sent (Read bytes) = IsUnderWay t × (t.way ≡ ways.Read) × (length bytes ≡ block_length) × MayGive m (next_block t) bytes
+MayStep m t sent Wrote = IsUnderWay t × (t.way ≡ ways.Write) × (length sent ≡ BLOCK)
+MayStep m t sent (Read bytes) = IsUnderWay t × (t.way ≡ ways.Read) × (length bytes ≡ BLOCK) × MayGive m (next_block t) bytes
 MayStep m t sent (Fault code) = IsUnderWay t × (code ≡ medium_error t.way)
 MayStep m t sent Done = (t.aborted ≡ false) × (t.done ≡ t.count)
 MayStep m t sent Aborted = t.aborted ≡ true

@@ -5,6 +5,7 @@ use Rattle.pr_words.specs.declared.nexus.Pair.{Pair}
 use Rattle.pr_words.specs.declared.code.Code.{Code}
 use Rattle.pr_words.specs.declared.task.Way.{Way}
 use Rattle.pr_words.specs.declared.task.Way.TheVariants as ways
+use Rattle.pr_words.specs.declared.code.TheConstants.Code.{UNRECOVERED_READ_ERROR, WRITE_ERROR}
 use Rattle.pr_grammar.specs.Standings.{is_registered}
 use Rattle.pr_model.specs.Worlds.{Task}
 
@@ -33,7 +34,7 @@ aborted t = record t { aborted = true }
 abbrev pub marked : ℕ → List Pair → (Nexus → Option Task) → Nexus → Option Task
 marked action removed tasks = λ n. if action == 5 && is_registered removed n then option_map aborted (tasks n) else tasks n
 
--- how a transfer ends that the medium fails: UNRECOVERED READ ERROR, WRITE ERROR (SPC-4, sense codes)
+-- how a transfer ends that the medium fails (SPC-4, sense codes)
 abbrev pub medium_error : Way → Code
-medium_error ways.Read = record { key = 3; asc = 0x11; ascq = 0 }
-medium_error ways.Write = record { key = 3; asc = 0x0C; ascq = 0 }
+medium_error ways.Read = UNRECOVERED_READ_ERROR
+medium_error ways.Write = WRITE_ERROR

@@ -7,8 +7,8 @@ use Rattle.pr_words.specs.declared.code.Code.{Code}
 use Rattle.pr_words.specs.declared.task.Way.{Way}
 use Rattle.pr_words.specs.declared.reservation.Reservation.TheVariants.{Free}
 use Rattle.pr_words.specs.Orders.{same_nexus}
+use Rattle.pr_words.specs.declared.code.TheConstants.Code.{POWER_ON}
 use Rattle.pr_grammar.specs.Standings.{Standing}
-use Rattle.pr_model.specs.Attentions.{powered_on}
 use Rattle.pr_model.specs.Keeping.{Kept, Nothing, Some_kept}
 
 -- what stands on the medium: how many logical blocks it has, whether a read is known to give what stands in a block, and the 512 bytes of each; None where nothing is known of them (SBC-3, logical blocks)
@@ -56,7 +56,7 @@ opened medium file_tells kept =
       file_tells = file_tells;
       standing = restored kept;
       known = map (λ (p : Pair). p.nexus) (restored kept).pairs;
-      attentions = λ _. powered_on ∷ [];
+      attentions = λ _. POWER_ON ∷ [];
       owner = λ _. None;
       task = λ _. None;
       doubts = [];

@@ -7,6 +7,7 @@
 ghost use Rattle.std.specs.Prelude.{◌≡◌, ℕ, ◌≤◌, ◌⊎◌, not, true, [], Some};
 ghost use Rattle.pr_words.specs.declared.nexus.Nexus.{Nexus};
 ghost use Rattle.pr_words.specs.declared.code.Code.{Code};
+ghost use Rattle.pr_words.specs.declared.code.TheConstants.{ILLEGAL_REQUEST};
 ghost use Rattle.pr_grammar.specs.Standings.{Standing, is_registered};
 ghost use Rattle.pr_model.specs.Registrants.{IsAscending, IsWellFormed};
 ghost use Rattle.pr_model.specs.Acts.{Acted, Good, Bad, ReserveOut, acted, preempt};
@@ -87,7 +88,7 @@ pub fn whom_an_act_reaches()
     ensures stay_code { (limit : ℕ) (s : Standing) (n : Nexus) (o : ReserveOut) (c : Code)
         → (acted limit s n o).stay_code ≡ Some c → is_attention c ≡ true }
     ensures refusal { (limit : ℕ) (s : Standing) (n : Nexus) (o : ReserveOut) (c : Code)
-        → (acted limit s n o).verdict ≡ Bad c → c.key ≡ 5 }
+        → (acted limit s n o).verdict ≡ Bad c → c.key ≡ ILLEGAL_REQUEST }
 {}
 
 /// A refused command leaves the world as it is, but that a unit attention which is reported goes.

@@ -1,5 +1,5 @@
 ghost use Rattle.std.specs.Prelude.{◌≡◌, ◌≤◌, ◌^◌};
-ghost use Rattle.pr_grammar.specs.Pages.{capacity_10, capacity_16, block_length as spec_length};
+ghost use Rattle.pr_grammar.specs.Pages.{capacity_10, capacity_16};
 ghost use Rattle.std.specs.Int.{w32, to_be_bytes};
 
 use pr_words::BLOCK;
@@ -32,7 +32,7 @@ pub fn capacity16(blocks: u64, out: &mut [u8; 32])
 
 /// LOGICAL BLOCK LENGTH IN BYTES.
 fn block_length() -> [u8; 4]
-    ensures { result ≡ to_be_bytes w32 spec_length }
+    ensures { result ≡ to_be_bytes w32 BLOCK }
 {
     (BLOCK as u32).to_be_bytes()
 }

@@ -15,6 +15,7 @@ use Rattle.pr_words.specs.declared.nexus.Key.{Key}
 use Rattle.pr_words.specs.declared.reservation.Kind.{Kind}
 use Rattle.pr_grammar.specs.Standings.{Standing}
 use Rattle.pr_words.specs.Kinds.{kind_code}
+use Rattle.pr_words.specs.declared.limits.TheConstants.{REPORTABLE}
 use Rattle.pr_grammar.specs.Cdbs.{bit}
 use Rattle.pr_grammar.specs.declared.param.Held.{Held}
 use Rattle.pr_grammar.specs.declared.param.FullEntry.{FullEntry}
@@ -55,7 +56,7 @@ keys_whole n bytes le =
 pub keys_long : (bytes : List ℕ) → 8 ≤ length bytes → read_keys bytes ≡ keys_sized (number32_at bytes 4) bytes
 keys_long bytes le = search (rules, le)
 
-pub keys_read_back : (s : Standing) → length s.pairs ≤ 65536 → FitKeys s → read_keys (keys_reply s) ≡ Ok (listed_keys s)
+pub keys_read_back : (s : Standing) → length s.pairs ≤ REPORTABLE → FitKeys s → read_keys (keys_reply s) ≡ Ok (listed_keys s)
 keys_read_back s few fits =
     let bytes = keys_reply s in
     let n : number32_at bytes 4 ≡ 8 * length s.pairs = from_be_bytes-to_be_bytes_4 (8 * length s.pairs) (omega (arith, few)) in
@@ -141,7 +142,7 @@ full_whole n bytes le none =
 pub full_long : (bytes : List ℕ) → 8 ≤ length bytes → read_full bytes ≡ full_sized (number32_at bytes 4) bytes
 full_long bytes le = search (rules, le)
 
-pub full_read_back : (s : Standing) → length s.pairs ≤ 65536 → FitFields s → read_full (full_reply s) ≡ Ok (listed_entries s)
+pub full_read_back : (s : Standing) → length s.pairs ≤ REPORTABLE → FitFields s → read_full (full_reply s) ≡ Ok (listed_entries s)
 full_read_back s few fits =
     let bytes = full_reply s in
     let kind = kind_of s.reservation in

@@ -4,6 +4,7 @@ ghost use Rattle.pr_grammar.specs.InReplies.{FitsPair, read_keys, read_reservati
 ghost use Rattle.pr_grammar.specs.Cdbs.{bit};
 ghost use Rattle.pr_grammar.specs.Standings.{kind_of, holder_of, is_holder};
 ghost use Rattle.pr_words.specs.declared.nexus.Pair.{Pair};
+ghost use Rattle.pr_words.specs.declared.limits.TheConstants.{REPORTABLE};
 ghost use Rattle.pr_param.specs.Fits.{FitKeys, FitFields, FitsHeld};
 
 use crate::put::{put, put_head};
@@ -13,7 +14,7 @@ use pr_words::{Key, Kind, Nexus, is_same};
 /// Writes the data of READ KEYS (SPC-4): its first `allocation` bytes, or all of it where it is shorter. Answers how
 /// many bytes it wrote. ADDITIONAL LENGTH counts all keys, whatever the allocation length.
 pub fn write_keys<R: Registrants>(from: &R, allocation: usize, out: &mut [u8]) -> usize
-    requires count { length (R.standing from.now).pairs ≤ 65536 }
+    requires count { length (R.standing from.now).pairs ≤ REPORTABLE }
     requires room { min allocation (length (keys_reply (R.standing from.now))) ≤ length out.old }
     ensures len { result ≡ min allocation (length (keys_reply (R.standing from.now))) }
     ensures written { take result out.new ≡ take result (keys_reply (R.standing from.now)) }
@@ -28,7 +29,7 @@ pub fn write_keys<R: Registrants>(from: &R, allocation: usize, out: &mut [u8]) -
 /// Writes the data of READ RESERVATION (SPC-4), as `write_keys` does its own. The key is zero where every registrant
 /// holds the reservation.
 pub fn write_reservation<R: Registrants>(from: &R, allocation: usize, out: &mut [u8]) -> usize
-    requires count { length (R.standing from.now).pairs ≤ 65536 }
+    requires count { length (R.standing from.now).pairs ≤ REPORTABLE }
     requires room { min allocation (length (reservation_reply (R.standing from.now))) ≤ length out.old }
     ensures len { result ≡ min allocation (length (reservation_reply (R.standing from.now))) }
     ensures written { take result out.new ≡ take result (reservation_reply (R.standing from.now)) }
@@ -58,7 +59,7 @@ pub fn write_capabilities<R: Registrants>(from: &R, allocation: usize, out: &mut
 /// registration, with the initiator's name in the SAS layout of a TransportID. R_HOLDER is set of those
 /// that are reservation holders.
 pub fn write_full<R: Registrants>(from: &R, allocation: usize, out: &mut [u8]) -> usize
-    requires count { length (R.standing from.now).pairs ≤ 65536 }
+    requires count { length (R.standing from.now).pairs ≤ REPORTABLE }
     requires room { min allocation (length (full_reply (R.standing from.now))) ≤ length out.old }
     ensures len { result ≡ min allocation (length (full_reply (R.standing from.now))) }
     ensures written { take result out.new ≡ take result (full_reply (R.standing from.now)) }
@@ -73,7 +74,7 @@ pub fn write_full<R: Registrants>(from: &R, allocation: usize, out: &mut [u8]) -
 
 /// How long the data of READ KEYS is.
 fn keys_length<R: Registrants>(from: &R) -> usize
-    requires { length (R.standing from.now).pairs ≤ 65536 }
+    requires { length (R.standing from.now).pairs ≤ REPORTABLE }
     ensures { result ≡ length (keys_reply (R.standing from.now)) }
 {
     8 + 8 * from.count()
@@ -81,7 +82,7 @@ fn keys_length<R: Registrants>(from: &R) -> usize
 
 /// Fills a buffer with the front of the data of READ KEYS.
 fn put_keys<R: Registrants>(from: &R, out: &mut [u8])
-    requires count { length (R.standing from.now).pairs ≤ 65536 }
+    requires count { length (R.standing from.now).pairs ≤ REPORTABLE }
     requires size { length out.old ≤ length (keys_reply (R.standing from.now)) }
     ensures front { out.new ≡ take (length out.old) (keys_reply (R.standing from.now)) }
     ensures fits { length out.old ≡ length (keys_reply (R.standing from.now)) → FitKeys (R.standing from.now) }
@@ -114,7 +115,7 @@ fn reservation_length<R: Registrants>(from: &R) -> usize
 
 /// Fills a buffer with the front of the data of READ RESERVATION.
 fn put_reservation<R: Registrants>(from: &R, out: &mut [u8])
-    requires count { length (R.standing from.now).pairs ≤ 65536 }
+    requires count { length (R.standing from.now).pairs ≤ REPORTABLE }
     requires size { length out.old ≤ length (reservation_reply (R.standing from.now)) }
     ensures front { out.new ≡ take (length out.old) (reservation_reply (R.standing from.now)) }
     ensures fits { FitsHeld (R.standing from.now) }
@@ -181,7 +182,7 @@ fn put_capabilities(preserve: bool, out: &mut [u8])
 
 /// How long the data of READ FULL STATUS is.
 fn full_length<R: Registrants>(from: &R) -> usize
-    requires { length (R.standing from.now).pairs ≤ 65536 }
+    requires { length (R.standing from.now).pairs ≤ REPORTABLE }
     ensures { result ≡ length (full_reply (R.standing from.now)) }
 {
     8 + 48 * from.count()
@@ -189,7 +190,7 @@ fn full_length<R: Registrants>(from: &R) -> usize
 
 /// Fills a buffer with the front of the data of READ FULL STATUS.
 fn put_full<R: Registrants>(from: &R, out: &mut [u8])
-    requires count { length (R.standing from.now).pairs ≤ 65536 }
+    requires count { length (R.standing from.now).pairs ≤ REPORTABLE }
     requires size { length out.old ≤ length (full_reply (R.standing from.now)) }
     ensures front { out.new ≡ take (length out.old) (full_reply (R.standing from.now)) }
     ensures fits { length out.old ≡ length (full_reply (R.standing from.now)) → FitFields (R.standing from.now) }

@@ -1,6 +1,6 @@
 ghost use Rattle.std.specs.Prelude.{◌≡◌, [], ◌∷◌, take, drop, slice_get, false, true, IfSome};
 ghost use Rattle.std.specs.List.{list_any};
-ghost use Rattle.pr_model.specs.Attentions.{powered_on, same_code, with_code, is_attention, AreAttentions};
+ghost use Rattle.pr_model.specs.Attentions.{same_code, with_code, is_attention, AreAttentions};
 
 use pr_words::Code;
 use std::marker::Model;
@@ -28,7 +28,7 @@ impl Model for Attentions {
 impl Attentions {
     /// What waits for a nexus that the target hasn't told of its power-up yet.
     pub fn fresh() -> Attentions
-        ensures { result ≡ powered_on ∷ [] }
+        ensures { result ≡ Code.POWER_ON ∷ [] }
     {
         Attentions {
             codes: [Code::POWER_ON; 4],

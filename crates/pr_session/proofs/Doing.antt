@@ -6,7 +6,7 @@ use Rattle.std.proofs.lemmas.List.{length-take, length-drop, length-append}
 use Rattle.pr_words.specs.declared.nexus.Nexus.{Nexus}
 use Rattle.pr_words.specs.declared.task.Way.{Way}
 use Rattle.pr_words.specs.declared.task.Way.TheVariants as ways
-use Rattle.pr_words.specs.declared.limits.TheConstants.{HELD}
+use Rattle.pr_words.specs.declared.limits.TheConstants.{HELD, DATA, TRANSFER, BLOCK, COMMAND_HEAD}
 use Rattle.pr_model.specs.Entries as entries
 use Rattle.pr_model.specs.Entries.{entry}
 use Rattle.pr_model.specs.Lanes as lanes
@@ -76,11 +76,11 @@ some_left ways.Write size = omega arith
 abbrev onward : Progress → Progress
 onward p = record p { done = p.done + 1 }
 
-wrote_come : (way : Way) (p : Progress) (size rest : ℕ) → way ≡ ways.Write → HasCome way p size → rest + 512 ≡ size → HasCome way (onward p) rest
+wrote_come : (way : Way) (p : Progress) (size rest : ℕ) → way ≡ ways.Write → HasCome way p size → rest + BLOCK ≡ size → HasCome way (onward p) rest
 wrote_come way p size rest is come less =
     subst (λ (w : Way). HasCome w (onward p) rest) (sym is) (let here : HasCome ways.Write p size = subst (λ (w : Way). HasCome w p size) is come in omega (arith, here, less))
 
-read_come : (way : Way) (p : Progress) (size more : ℕ) → way ≡ ways.Read → p.done < p.count → HasCome way p size → more ≡ size + 512 → HasCome way (onward p) more
+read_come : (way : Way) (p : Progress) (size more : ℕ) → way ≡ ways.Read → p.done < p.count → HasCome way p size → more ≡ size + BLOCK → HasCome way (onward p) more
 read_come way p size more is left come sum =
     subst (λ (w : Way). HasCome w (onward p) more) (sym is) (let here : HasCome ways.Read p size = subst (λ (w : Way). HasCome w p size) is come in (omega (arith, here.0, sum), omega (arith, left)))
 
@@ -101,33 +101,33 @@ module _ {M D : Type 0} {gm : media.Ghosts M} {gd : disks.Ghosts D} (who : ℕ) 
   ends out made carried fits idle phase goes =
       record { made = made (lanes.carried (job_of j work)) (carried (lanes.carried (job_of j work))); fits = fits; goes = goes; agrees = λ held place. subst (λ (p : lanes.Phase). Agrees p who new) (sym (phase held place)) (owns, idle); onward = λ held place. subst (λ (p : lanes.Phase). left_of p < left_by j.way (length (job_of j work).bytes)) (sym (phase held place)) (some_left j.way (length (job_of j work).bytes)) }
 
-  wrote : (lba : ℕ) → Made (steps.Wrote lba) → left ≡ work → (p : Progress) → p.way ≡ (job_of j work).way → HasCome j.way p (length (job_of j work).bytes) → p.count ≤ 1024 → Progresses (steps.Wrote lba) (Some p) (progress_of new n) → Does (Step n j) who old work (outs.Step (steps.Wrote lba)) new left
+  wrote : (lba : ℕ) → Made (steps.Wrote lba) → left ≡ work → (p : Progress) → p.way ≡ (job_of j work).way → HasCome j.way p (length (job_of j work).bytes) → p.count ≤ TRANSFER → Progresses (steps.Wrote lba) (Some p) (progress_of new n) → Does (Step n j) who old work (outs.Step (steps.Wrote lba)) new left
   wrote lba made kept p same come few goes =
       let way : j.way ≡ ways.Write = sym same ∙ goes.0 in
       let whole : length (slice_range work j.start j.stop) ≡ j.stop - j.start = length_between work j.start j.stop j.order (omega (arith, j.within, size)) in
-      let come_here : length (slice_range work j.start j.stop) + 512 * p.done ≡ 512 * p.count = subst (λ (w : Way). HasCome w p (length (slice_range work j.start j.stop))) way come in
-      let some : j.start + 512 ≤ j.stop = omega (arith, whole, come_here, goes.1, j.order) in
+      let come_here : length (slice_range work j.start j.stop) + BLOCK * p.done ≡ BLOCK * p.count = subst (λ (w : Way). HasCome w p (length (slice_range work j.start j.stop))) way come in
+      let some : j.start + BLOCK ≤ j.stop = omega (arith, whole, come_here, goes.1, j.order) in
       let whole_left : length (slice_range left j.start j.stop) ≡ j.stop - j.start = length_between left j.start j.stop j.order (omega (arith, j.within, size_left)) in
-      let rest : length (drop 512 (slice_range left j.start j.stop)) + 512 ≡ length (slice_range work j.start j.stop) = omega (arith, length-drop 512 (slice_range left j.start j.stop), whole_left, whole, some) in
+      let rest : length (drop BLOCK (slice_range left j.start j.stop)) + BLOCK ≡ length (slice_range work j.start j.stop) = omega (arith, length-drop BLOCK (slice_range left j.start j.stop), whole_left, whole, some) in
       record {
         made = made (carried (job_of j work)) (carries_block j work way some j.within size);
         fits = (way, some);
         goes = λ held place. ap (λ (w : List ℕ). after_step n (job_of j w) held place entries.Wrote) kept;
-        agrees = λ held place. record { owner = owns; progress = onward p; runs = goes.2; way = same; come = wrote_come j.way p (length (slice_range work j.start j.stop)) (length (drop 512 (slice_range left j.start j.stop))) way come rest; few = few };
-        onward = λ held place. subst (λ (w : Way). left_by w (length (drop 512 (slice_range left j.start j.stop))) < left_by w (length (slice_range work j.start j.stop))) (sym way) (omega (arith, rest));
+        agrees = λ held place. record { owner = owns; progress = onward p; runs = goes.2; way = same; come = wrote_come j.way p (length (slice_range work j.start j.stop)) (length (drop BLOCK (slice_range left j.start j.stop))) way come rest; few = few };
+        onward = λ held place. subst (λ (w : Way). left_by w (length (drop BLOCK (slice_range left j.start j.stop))) < left_by w (length (slice_range work j.start j.stop))) (sym way) (omega (arith, rest));
       }
 
-  read : (lba : ℕ) → Made (steps.Read lba) → take (block_place j) left ≡ take (block_place j) work → (p : Progress) → p.way ≡ (job_of j work).way → HasCome j.way p (length (job_of j work).bytes) → p.count ≤ 1024 → Progresses (steps.Read lba) (Some p) (progress_of new n) → Does (Step n j) who old work (outs.Step (steps.Read lba)) new left
+  read : (lba : ℕ) → Made (steps.Read lba) → take (block_place j) left ≡ take (block_place j) work → (p : Progress) → p.way ≡ (job_of j work).way → HasCome j.way p (length (job_of j work).bytes) → p.count ≤ TRANSFER → Progresses (steps.Read lba) (Some p) (progress_of new n) → Does (Step n j) who old work (outs.Step (steps.Read lba)) new left
   read lba made before p same come few goes =
       let way : j.way ≡ ways.Read = sym same ∙ goes.0 in
       let whole : length (slice_range work j.start j.stop) ≡ j.stop - j.start = length_between work j.start j.stop j.order (omega (arith, j.within, size)) in
       let come_here : HasCome ways.Read p (length (slice_range work j.start j.stop)) = subst (λ (w : Way). HasCome w p (length (slice_range work j.start j.stop))) way come in
-      let within : j.stop + 512 ≤ 20 + 524288 = omega (arith, whole, come_here.0, few, goes.1, j.order, j.read way) in
+      let within : j.stop + BLOCK ≤ COMMAND_HEAD + DATA = omega (arith, whole, come_here.0, few, goes.1, j.order, j.read way) in
       let at : block_place j ≡ j.stop = place_of_read j way within in
       let same_bytes : slice_range left j.start j.stop ≡ slice_range work j.start j.stop = same_between work left j.start j.stop (subst (λ (k : ℕ). take k left ≡ take k work) at before) in
       let block : List ℕ = block_from (block_place j) left in
-      let block_size : length block ≡ 512 = length_between left (block_place j) (block_place j + 512) (omega arith) (omega (arith, at, within, size_left)) ∙ (let gap : (block_place j + 512) - block_place j ≡ 512 = omega arith in gap) in
-      let sum : length (slice_range left j.start j.stop ++ block) ≡ length (slice_range work j.start j.stop) + 512 = omega (arith, length-append (slice_range left j.start j.stop) block, ap length same_bytes, block_size) in
+      let block_size : length block ≡ BLOCK = length_between left (block_place j) (block_place j + BLOCK) (omega arith) (omega (arith, at, within, size_left)) ∙ (let gap : (block_place j + BLOCK) - block_place j ≡ BLOCK = omega arith in gap) in
+      let sum : length (slice_range left j.start j.stop ++ block) ≡ length (slice_range work j.start j.stop) + BLOCK = omega (arith, length-append (slice_range left j.start j.stop) block, ap length same_bytes, block_size) in
       record {
         made = made (carried (job_of j work)) tt;
         fits = (way, within);
@@ -136,7 +136,7 @@ module _ {M D : Type 0} {gm : media.Ghosts M} {gd : disks.Ghosts D} (who : ℕ) 
         onward = λ held place. subst (λ (w : Way). left_by w (length (slice_range left j.start j.stop ++ block)) < left_by w (length (slice_range work j.start j.stop))) (sym way) (omega (arith, sum, whole, within, j.read way, j.order));
       }
 
-  by_progress : (out : StepOut) → Made out → take (block_place j) left ≡ take (block_place j) work → LeavesBlock out work left → (p : Progress) → p.way ≡ j.way → HasCome j.way p (length (job_of j work).bytes) → p.count ≤ 1024
+  by_progress : (out : StepOut) → Made out → take (block_place j) left ≡ take (block_place j) work → LeavesBlock out work left → (p : Progress) → p.way ≡ j.way → HasCome j.way p (length (job_of j work).bytes) → p.count ≤ TRANSFER
       → Progresses out (Some p) (progress_of new n) → Does (Step n j) who old work (outs.Step out) new left
   by_progress (steps.Wrote lba) made before kept p same come few goes = wrote lba made kept p same come few goes
   by_progress (steps.Read lba) made before kept p same come few goes = read lba made before p same come few goes

@@ -8,6 +8,7 @@ use Rattle.pr_words.specs.declared.nexus.Nexus.{Nexus}
 use Rattle.pr_words.specs.declared.nexus.Side.{Side}
 use Rattle.pr_words.specs.declared.nexus.Side.TheVariants.{Target}
 use Rattle.pr_words.specs.Fields.{number32_at}
+use Rattle.pr_words.specs.declared.limits.TheConstants.{FRAME_LENGTH}
 use Rattle.pr_grammar.specs.Frames.{Front, Lacking, Broken, Whole, front, sized}
 use Rattle.pr_grammar.proofs.Fronts.{grown, checked_more, IsThere}
 use Rattle.pr_model.specs.Entries.{History, Step}
@@ -18,7 +19,7 @@ use Rattle.pr_model.proofs.Overflow.{arrived-append, arrived-nil, grown_turn, tu
 use Rattle.pr_model.proofs.SessionLaws.{turns_join}
 use Rattle.pr_session.specs.Ends.{IsMade, Serves}
 
-sized_grows : (side : Side) (a b : Bool) (xs ys : List ℕ) (len : ℕ) → (ltb len 8 || ltb 524316 len) ≡ a → ltb (length xs) (4 + len) ≡ b → IsThere (sized side len xs) → sized side len (xs ++ ys) ≡ grown (sized side len xs) ys
+sized_grows : (side : Side) (a b : Bool) (xs ys : List ℕ) (len : ℕ) → (ltb len 8 || ltb FRAME_LENGTH len) ≡ a → ltb (length xs) (4 + len) ≡ b → IsThere (sized side len xs) → sized side len (xs ++ ys) ≡ grown (sized side len xs) ys
 sized_grows side true b xs ys len is short there = rw is refl
 sized_grows side false true xs ys len is short there = absurd (rw (is, short) at there)
 sized_grows side false false xs ys len is short there =

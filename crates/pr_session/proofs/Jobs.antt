@@ -13,7 +13,7 @@ use Rattle.pr_session.proofs.Blocks.{first_between, rest_between, more_between, 
 
 begun_bytes : (way : Way) (sent : ℕ) (work : List ℕ) → slice_range work COMMAND_HEAD (first_stop way sent) ≡ lanes.first_bytes way (take sent (data_in work))
 begun_bytes ways.Read sent work = refl
-begun_bytes ways.Write sent work = let size : (20 + sent) - 20 ≡ sent = omega arith in ap (λ (n : ℕ). take n (drop 20 work)) size
+begun_bytes ways.Write sent work = let size : (COMMAND_HEAD + sent) - COMMAND_HEAD ≡ sent = omega arith in ap (λ (n : ℕ). take n (drop COMMAND_HEAD work)) size
 
 abbrev with_parts : ℕ → ℕ → Way → List ℕ → lanes.Job
 with_parts lun tag way bytes = record { lun = lun; tag = tag; way = way; bytes = bytes }
@@ -46,21 +46,21 @@ place_of_read j is within =
 pub carries_block : (j : Job) (work : List ℕ) → j.way ≡ ways.Write → j.start + BLOCK ≤ j.stop → j.stop ≤ COMMAND_HEAD + DATA → length work ≡ HELD → lanes.carried (job_of j work) ≡ block_from (block_place j) work
 carries_block j work is some within size =
     ap (λ (w : Way). carried_by w (slice_range work j.start j.stop)) is
-    ∙ first_between work j.start 512 j.stop some (omega (arith, within, size))
+    ∙ first_between work j.start BLOCK j.stop some (omega (arith, within, size))
     ∙ ap (λ (at : ℕ). block_from at work) (sym (place_of_write j is some within))
 
 -- one block more was written, or read
 pub written_job : (j k : Job) (work : List ℕ) → (k.lun ≡ j.lun) × (k.tag ≡ j.tag) × (k.way ≡ j.way) → (k.start ≡ j.start + BLOCK) × (k.stop ≡ j.stop) → j.start + BLOCK ≤ j.stop → job_of k work ≡ with_bytes (job_of j work) (drop BLOCK (job_of j work).bytes)
 written_job j k work head places some =
-    same_parts k j.lun j.tag j.way work (drop 512 (slice_range work j.start j.stop)) head
-    (ap (λ (n : ℕ). slice_range work n k.stop) places.0 ∙ ap (slice_range work (j.start + BLOCK)) places.1 ∙ sym (rest_between work j.start 512 j.stop some))
+    same_parts k j.lun j.tag j.way work (drop BLOCK (slice_range work j.start j.stop)) head
+    (ap (λ (n : ℕ). slice_range work n k.stop) places.0 ∙ ap (slice_range work (j.start + BLOCK)) places.1 ∙ sym (rest_between work j.start BLOCK j.stop some))
 
 pub read_job : (j k : Job) (work : List ℕ) → (k.lun ≡ j.lun) × (k.tag ≡ j.tag) × (k.way ≡ j.way) → (k.start ≡ j.start) × (k.stop ≡ j.stop + BLOCK) → j.way ≡ ways.Read → j.stop + BLOCK ≤ COMMAND_HEAD + DATA → length work ≡ HELD
     → job_of k work ≡ with_bytes (job_of j work) ((job_of j work).bytes ++ block_from (block_place j) work)
 read_job j k work head places is within size =
     same_parts k j.lun j.tag j.way work (slice_range work j.start j.stop ++ block_from (block_place j) work) head
     (ap (λ (n : ℕ). slice_range work n k.stop) places.0 ∙ ap (slice_range work j.start) places.1
-    ∙ sym (more_between work j.start j.stop 512 j.order (omega (arith, within, size)))
+    ∙ sym (more_between work j.start j.stop BLOCK j.order (omega (arith, within, size)))
     ∙ ap (λ (at : ℕ). slice_range work j.start j.stop ++ block_from at work) (sym (place_of_read j is within)))
 
 -- the data-in of a task that is done
@@ -77,4 +77,4 @@ carried_there j work = by j.way
   where
     by : (way : Way) → take (carried_in way j.start j.stop) (drop j.start work) ≡ carried_by way (slice_range work j.start j.stop)
     by ways.Read = refl
-    by ways.Write = few_between work j.start j.stop 512
+    by ways.Write = few_between work j.start j.stop BLOCK

@@ -4,6 +4,7 @@ use Rattle.std.proofs.lemmas.List.{append-nil}
 use Rattle.std.proofs.lemmas.Bool.{true≢false, cases_lt}
 use Rattle.pr_words.specs.declared.nexus.Nexus.{Nexus}
 use Rattle.pr_words.specs.declared.nexus.Side.TheVariants.{Target}
+use Rattle.pr_words.specs.declared.limits.TheConstants.{HELD}
 use Rattle.pr_grammar.specs.Frames.{Front, Lacking, Broken, Whole, front}
 use Rattle.pr_grammar.proofs.Fronts.{full_front}
 use Rattle.pr_io.specs.Streams.{Took, Put, PutSome, HasEnded}
@@ -73,17 +74,17 @@ idle_lacks (In n) place (Broken r) awaits is = absurd (not_asks n Logout _ is)
 idle_lacks Fresh place (Whole f rest) awaits is = absurd (fresh_acts (eqb f.kind 1) _ _ _ _ is)
 idle_lacks (In n) place (Whole f rest) awaits is = absurd (in_acts (eqb f.kind 2) (eqb f.kind 3) n _ _ _ _ _ _ is)
 
-room_by : (bytes : List ℕ) (k : ℕ) → front Target bytes ≡ Lacking k → length bytes < 524320
-room_by bytes k is = elim (cases_lt (length bytes) 524320) [ inl less ↦ less | inr full ↦ absurd (full_front Target bytes full k is) ]
+room_by : (bytes : List ℕ) (k : ℕ) → front Target bytes ≡ Lacking k → length bytes < HELD
+room_by bytes k is = elim (cases_lt (length bytes) HELD) [ inl less ↦ less | inr full ↦ absurd (full_front Target bytes full k is) ]
 
-room_at : (p : Phase) (bytes : List ℕ) (place : ℕ) → AwaitsFrame p → turn_by p bytes place ≡ Idle → length bytes < 524320
+room_at : (p : Phase) (bytes : List ℕ) (place : ℕ) → AwaitsFrame p → turn_by p bytes place ≡ Idle → length bytes < HELD
 room_at Dead bytes place awaits is = absurd awaits
 room_at (Busy n j) bytes place awaits is = absurd awaits
 room_at Fresh bytes place awaits is = let lacks = idle_lacks Fresh place (front Target bytes) awaits is in room_by bytes lacks.0 lacks.1
 room_at (In n) bytes place awaits is = let lacks = idle_lacks (In n) place (front Target bytes) awaits is in room_by bytes lacks.0 lacks.1
 
 -- a source that gave nothing to a session that wants more bytes has ended
-pub no_more : (rest : Option (List ℕ)) (l : Lane) → AwaitsFrame l.phase → turn l ≡ Idle → HasEnded rest 0 (524320 - length l.bytes) → HasNoMore rest
+pub no_more : (rest : Option (List ℕ)) (l : Lane) → AwaitsFrame l.phase → turn l ≡ Idle → HasEnded rest 0 (HELD - length l.bytes) → HasNoMore rest
 no_more None l awaits idle ended = tt
 no_more (Some rest) l awaits idle ended = let room = room_at l.phase l.bytes l.place awaits idle in ended (omega (arith, room)) refl
 

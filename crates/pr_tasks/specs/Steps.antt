@@ -3,8 +3,8 @@ use Rattle.std.specs.Prelude.{◌≡◌, ◌+◌, ℕ, List, true, false, Result
 use Rattle.pr_words.specs.declared.code.Code.{Code}
 use Rattle.pr_words.specs.declared.task.Way.{Way}
 use Rattle.pr_words.specs.declared.task.Way.TheVariants as ways
-use Rattle.pr_model.specs.Limits.{TRANSFER}
-use Rattle.pr_model.specs.Commands.{invalid_field, out_of_range}
+use Rattle.pr_words.specs.declared.code.TheConstants.Code.{INVALID_FIELD_IN_CDB, LOGICAL_BLOCK_ADDRESS_OUT_OF_RANGE}
+use Rattle.pr_words.specs.declared.limits.TheConstants.{TRANSFER}
 use Rattle.pr_model.specs.Worlds.{Task}
 use Rattle.pr_model.specs.Tasks.{new_task, next_block, IsUnderWay, advanced, medium_error}
 use Rattle.pr_tasks.specs.declared.step_out.StepOut.{StepOut}
@@ -13,8 +13,8 @@ use Rattle.pr_tasks.specs.declared.step_out.StepOut.TheVariants.{Wrote, Read, Do
 -- a task of these blocks, or how its command is refused: too many at once (this project's own), or not all within the medium (SBC-3; at no blocks too, which is this project's own)
 abbrev pub begun : Way → ℕ → ℕ → ℕ → Result Task Code
 begun way lba count blocks =
-    if nat_lt TRANSFER count then Err invalid_field else
-    if nat_lt blocks (lba + count) then Err out_of_range else
+    if nat_lt TRANSFER count then Err INVALID_FIELD_IN_CDB else
+    if nat_lt blocks (lba + count) then Err LOGICAL_BLOCK_ADDRESS_OUT_OF_RANGE else
     Ok (new_task way lba count)
 
 -- which step of a task has this outcome, and the task behind it (this project's own)

@@ -6,7 +6,6 @@ use Rattle.pr_io.specs.Told.{ToldSink}
 use Rattle.pr_io.proofs.Pieces.{put_more, put_nothing}
 use Rattle.pr_grammar.specs.Outputs.{output_of}
 use Rattle.pr_grammar.specs.Schedules.{Arrival}
-use Rattle.pr_model.specs.Limits.{HELD}
 use Rattle.pr_model.specs.Lanes.{Lane, Phase, Fresh, In, Busy, Dead, AwaitsFrame, fresh, arrived, turn}
 use Rattle.pr_model.specs.Runs.{Deed, deed, TakesTurn, TakesTurns, CutsTurn, RunsRecord, CutsRecord, closing, Closes}
 use Rattle.pr_model.proofs.Overflow.{MadeRoom, Has_died, Has_room, room_made, takes_more, turns-append, arrived-append, arrived-nil}
@@ -17,6 +16,7 @@ use Rattle.pr_core.specs.View.{Extends}
 use Rattle.pr_core.proofs.Entering.{extends_none, extends_append}
 use Rattle.pr_words.specs.declared.task.Way.{Way}
 use Rattle.pr_words.specs.declared.task.Way.TheVariants as ways
+use Rattle.pr_words.specs.declared.limits.TheConstants.{HELD, DATA}
 use Rattle.pr_session.specs.Coming.{HasCome}
 use Rattle.pr_session.specs.Driving.{Agrees, Follows, LeavesLess, left_by, left_of}
 use Rattle.pr_session.specs.Feeding.{fed, fed_at}
@@ -73,21 +73,21 @@ turn_room who old new l m reply f full alive less = by l.phase refl
     by Dead is = absurd (alive is)
 
 -- how much is left of a task, at the most
-pub left_bound : {M D : Type 0} {gm : media.Ghosts M} {gd : disks.Ghosts D} (p : Phase) (who : ℕ) (c : Core M D gm gd) → Agrees p who c → left_of p ≤ 524289
+pub left_bound : {M D : Type 0} {gm : media.Ghosts M} {gd : disks.Ghosts D} (p : Phase) (who : ℕ) (c : Core M D gm gd) → Agrees p who c → left_of p ≤ DATA + 1
 left_bound Fresh who c agrees = omega arith
 left_bound (In n) who c agrees = omega arith
 left_bound Dead who c agrees = omega arith
 left_bound (Busy n j) who c agrees = by j.way agrees.come
   where
-    by : (way : Way) → HasCome way agrees.progress (length j.bytes) → left_by way (length j.bytes) ≤ 524289
+    by : (way : Way) → HasCome way agrees.progress (length j.bytes) → left_by way (length j.bytes) ≤ DATA + 1
     by ways.Read come = omega arith
     by ways.Write come = omega (arith, come, agrees.few)
 
 -- what is still to be done of an arrival: its bytes that wait, and what is left of a task
 abbrev pub to_do : ℕ → ℕ → ℕ
-to_do waiting left = waiting * 524290 + left
+to_do waiting left = waiting * (DATA + 2) + left
 
-pub less_to_do : (waiting n left before : ℕ) → n ≤ waiting → left ≤ 524289 → (0 < n) ⊎ (left < before) → to_do (waiting - n) left < to_do waiting before
+pub less_to_do : (waiting n left before : ℕ) → n ≤ waiting → left ≤ DATA + 1 → (0 < n) ⊎ (left < before) → to_do (waiting - n) left < to_do waiting before
 less_to_do waiting n left before within bound (inl some) = omega (arith, within, bound, some)
 less_to_do waiting n left before within bound (inr less) = omega (arith, within, less)
 

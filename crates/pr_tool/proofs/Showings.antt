@@ -8,6 +8,7 @@ use Rattle.std.proofs.Math.Nat.{mod-eq_of_lt}
 use Rattle.std.proofs.Math.Seq.{take-append-add}
 use Rattle.pr_words.specs.declared.nexus.Side.{Side}
 use Rattle.pr_words.specs.declared.nexus.Side.TheVariants.{Target}
+use Rattle.pr_words.specs.declared.limits.TheConstants.{HELD}
 use Rattle.pr_io.specs.Streams.{Took, Put, PutSome, HasEnded}
 use Rattle.pr_io.specs.Causes.{next_fault}
 use Rattle.pr_io.proofs.Pieces.{put_more, took_more, put_nothing, took_nothing}
@@ -339,7 +340,7 @@ finds old mid new piece buf answer side unbroken is gives =
     finds_at (front Target (old.held ++ piece)) old mid new piece buf answer side is refl (subst (λ (x : Front). GivesAt mid x answer new buf) same at)
 
 -- bytes for which there is room are all held
-pub fed_all : (s t : Stream) (piece : List ℕ) (count : ℕ) → Feeds s piece count t → s.broken ≡ None → length s.held + length piece ≤ 524320 → t ≡ record s { held = s.held ++ piece }
+pub fed_all : (s t : Stream) (piece : List ℕ) (count : ℕ) → Feeds s piece count t → s.broken ≡ None → length s.held + length piece ≤ HELD → t ≡ record s { held = s.held ++ piece }
 fed_all s t piece count feeds unbroken room =
     let fed : FeedsIf None s piece count t = subst (λ (b : Option ℕ). FeedsIf b s piece count t) unbroken feeds in
     let all : take count piece ≡ piece = take_all count piece (omega (arith, fed.0, room)) in

@@ -1,6 +1,7 @@
 -- What the reading of one record of a schedule takes and gives (this project's own).
 use Rattle.std.specs.Prelude.{◌≡◌, ℕ, ◌<◌, ◌≤◌, ◌⊎◌, List, [], ◌++◌, length, take, Option, Some, None, Result, Ok, Err, Bool, true, false, if◌then◌else◌}
 use Rattle.pr_io.specs.Streams.{Took}
+use Rattle.pr_words.specs.declared.limits.TheConstants.{PIECE}
 use Rattle.pr_grammar.specs.Schedules.{Record, Arrival, Step_of, Close_of, Power_loss, IsRecord, spelled_record, Partial, Faulty, record_front, IsUnfinished}
 use Rattle.pr_tool.specs.declared.schedule.LaneRecord.{LaneRecord}
 use Rattle.pr_tool.specs.declared.schedule.LaneRecord.TheVariants.{Arrival as Arrived, Step as Stepped, Close as Closed}
@@ -21,7 +22,7 @@ record_of Power body = Power_loss
 
 -- its bytes are within the buffer's front that a record may fill (this project's own)
 abbrev pub IsHeldOf : LaneRecord → Type 0
-IsHeldOf (Arrived lane len) = len ≤ 65535
+IsHeldOf (Arrived lane len) = len ≤ PIECE
 IsHeldOf (Stepped lane) = Unit {0}
 IsHeldOf (Closed lane) = Unit {0}
 

@@ -4,6 +4,7 @@ use Rattle.std.specs.List.{flat_map}
 use Rattle.pr_io.specs.Streams.{Took, Put, PutSome}
 use Rattle.pr_io.specs.Causes.{next_fault}
 use Rattle.pr_words.specs.declared.nexus.Side.TheVariants.{Target}
+use Rattle.pr_words.specs.declared.limits.TheConstants.{HELD}
 use Rattle.pr_grammar.specs.Frames.{Frame, Lacking, Broken, Whole, front, frame_size}
 use Rattle.pr_grammar.specs.Shows.{AreFrames, Framed, HasBroken, JustBroken, size_of_all, line_of, text_of}
 use Rattle.pr_link.specs.Streams.{Stream, IsFormed, frame_of}
@@ -14,6 +15,8 @@ use Rattle.pr_tool.specs.declared.exit.Exit.{Exit}
 use Rattle.pr_tool.specs.declared.exit.Exit.TheVariants.{Done, ReadFault, WriteFault, NoMemory, TooLong}
 use Rattle.pr_tool.specs.declared.show.Viewer.{Viewer}
 use Rattle.pr_tool.specs.Reading.{IsAtEnd}
+use Rattle.pr_tool.specs.declared.lines.TheConstants.{LINE}
+use Rattle.pr_tool.specs.declared.show.TheConstants.{TEXT}
 
 -- the frames of what was read; where one of them breaks a rule, the last byte read shows it
 pub record HasRead (rest_old rest : Option (List ℕ)) : Type 0 where
@@ -72,9 +75,9 @@ pub record Ready (v : Viewer) : Type 0 where
   pub side : (stream_of v.deframer).side ≡ Target
   pub unbroken : (stream_of v.deframer).broken ≡ None
   pub short : front Target (held_of v.deframer) ≡ Lacking v.need
-  pub work : length v.work.items ≡ 524320
-  pub taken : 65536 ≤ vec_capacity v.text
-  pub room : vec_len v.text + 128 ≤ 65536
+  pub work : length v.work.items ≡ HELD
+  pub taken : TEXT ≤ vec_capacity v.text
+  pub room : vec_len v.text + LINE ≤ TEXT
   pub count : v.frames + v.left < 2 ^ 64
 
 -- how far a viewer has come, by its stream, the text that waits, its count of frames, and how many bytes may still be looked at: the frames that were read, and their lines, of which the last ones wait

@@ -1,12 +1,13 @@
 //! The words of the command line.
 
 ghost use Rattle.std.specs.Prelude.{◌≡◌, ◌+◌, ◌≤◌, ◌↔◌, ℕ, Some};
+ghost use Rattle.pr_words.specs.declared.limits.TheConstants.{LANES};
 ghost use Rattle.pr_tool.specs.Asking.{decimal, AsksReplay};
 
 /// The number of lanes, from 1 to 64, that decimal digits say with no zero in front.
 fn lanes_in(digits: &[u8]) -> Option<usize>
     ensures { (lanes : ℕ) → result ≡
-        Some lanes ↔ ((1 ≤ lanes) × (lanes ≤ 64) × (digits.now ≡ decimal lanes)) }
+        Some lanes ↔ ((1 ≤ lanes) × (lanes ≤ LANES) × (digits.now ≡ decimal lanes)) }
 {
     match *digits {
         [ones @ b'1'..=b'9'] => Some(usize::from(ones - b'0')),

@@ -86,9 +86,9 @@ fn push_field(text: &mut Vec<u8>, word: &[u8], number: u64)
 
 /// Writes the line of a Login.
 fn push_login(text: &mut Vec<u8>, tag: u32, version: u8, nexus: Nexus)
-    requires { vec_len text.old + 128 ≤ vec_capacity text.old }
+    requires { vec_len text.old + LINE ≤ vec_capacity text.old }
     ensures items { text.new.items ≡ text.old.items ++ login_line tag version nexus }
-    ensures len { vec_len text.new ≤ vec_len text.old + 128 }
+    ensures len { vec_len text.new ≤ vec_len text.old + LINE }
     ensures room { vec_capacity text.old ≤ vec_capacity text.new }
 {
     push_field(text, b"login tag=", u64::from(tag));
@@ -101,10 +101,10 @@ fn push_login(text: &mut Vec<u8>, tag: u32, version: u8, nexus: Nexus)
 
 /// Writes the line of a Command with this CDB and so many bytes of data-out.
 fn push_command(text: &mut Vec<u8>, lun: u16, tag: u32, cdb: &RawCdb, data_out: usize)
-    requires { vec_len text.old + 128 ≤ vec_capacity text.old }
+    requires { vec_len text.old + LINE ≤ vec_capacity text.old }
     ensures items { text.new.items ≡
         text.old.items ++ command_line tag lun (operation_code cdb.now) data_out }
-    ensures len { vec_len text.new ≤ vec_len text.old + 128 }
+    ensures len { vec_len text.new ≤ vec_len text.old + LINE }
     ensures room { vec_capacity text.old ≤ vec_capacity text.new }
 {
     push_field(text, b"command tag=", u64::from(tag));
@@ -117,9 +117,9 @@ fn push_command(text: &mut Vec<u8>, lun: u16, tag: u32, cdb: &RawCdb, data_out: 
 
 /// Writes the line of a Logout.
 fn push_logout(text: &mut Vec<u8>, tag: u32)
-    requires { vec_len text.old + 128 ≤ vec_capacity text.old }
+    requires { vec_len text.old + LINE ≤ vec_capacity text.old }
     ensures items { text.new.items ≡ text.old.items ++ logout_line tag }
-    ensures len { vec_len text.new ≤ vec_len text.old + 128 }
+    ensures len { vec_len text.new ≤ vec_len text.old + LINE }
     ensures room { vec_capacity text.old ≤ vec_capacity text.new }
 {
     push_field(text, b"logout tag=", u64::from(tag));
@@ -128,10 +128,10 @@ fn push_logout(text: &mut Vec<u8>, tag: u32)
 
 /// Writes the line of a frame with this body, which a target receives.
 pub(crate) fn push_frame(text: &mut Vec<u8>, frame: &Frame, body: &[u8])
-    requires room { vec_len text.old + 128 ≤ vec_capacity text.old }
+    requires room { vec_len text.old + LINE ≤ vec_capacity text.old }
     requires body { is_body Target frame.now.kind body.now ≡ true }
     ensures items { text.new.items ≡ text.old.items ++ line_of (frame_of frame.now body.now) }
-    ensures len { vec_len text.new ≤ vec_len text.old + 128 }
+    ensures len { vec_len text.new ≤ vec_len text.old + LINE }
     ensures room { vec_capacity text.old ≤ vec_capacity text.new }
 {
     match Request::read(frame.kind, body) {
@@ -145,7 +145,7 @@ pub(crate) fn push_frame(text: &mut Vec<u8>, frame: &Frame, body: &[u8])
 
 /// Writes the last line of a stream that ends behind its frames.
 pub(crate) fn push_end(text: &mut Vec<u8>, frames: u64)
-    requires { vec_len text.old + 128 ≤ vec_capacity text.old }
+    requires { vec_len text.old + LINE ≤ vec_capacity text.old }
     ensures items { text.new.items ≡ text.old.items ++ (codes "end frames=" ++ decimal frames
         ++ line_feed) }
 {
@@ -155,7 +155,7 @@ pub(crate) fn push_end(text: &mut Vec<u8>, frames: u64)
 
 /// Writes the last line of a stream that ends inside a frame.
 pub(crate) fn push_cut(text: &mut Vec<u8>, place: u64)
-    requires { vec_len text.old + 128 ≤ vec_capacity text.old }
+    requires { vec_len text.old + LINE ≤ vec_capacity text.old }
     ensures items { text.new.items ≡ text.old.items ++ (codes "cut place=" ++ decimal place
         ++ line_feed) }
 {
@@ -165,7 +165,7 @@ pub(crate) fn push_cut(text: &mut Vec<u8>, place: u64)
 
 /// Writes the last line of a stream in which a frame breaks a rule.
 pub(crate) fn push_bad(text: &mut Vec<u8>, place: u64, reason: u8)
-    requires { vec_len text.old + 128 ≤ vec_capacity text.old }
+    requires { vec_len text.old + LINE ≤ vec_capacity text.old }
     ensures items { text.new.items ≡ text.old.items ++ (codes "bad place=" ++ decimal place
         ++ codes " reason=" ++ decimal reason ++ line_feed) }
 {

@@ -1,6 +1,7 @@
 ghost use Rattle.std.specs.Prelude.{◌≡◌, ◌+◌, ◌-◌, ◌≤◌, ◌<◌, ◌^◌, ◌↔◌, ◌⊎◌, ℕ, List, replicate, length, vec_len, IfOk, OnOk, OnErr};
 ghost use Rattle.pr_io.specs.Causes.{HasCause};
 ghost use Rattle.pr_io.specs.Told.{told_sink, told_streams, told};
+ghost use Rattle.pr_words.specs.declared.limits.TheConstants.{LANES};
 ghost use Rattle.pr_grammar.specs.Schedules as schedules;
 ghost use Rattle.pr_model.specs.Lanes.{fresh};
 ghost use Rattle.pr_model.specs.Lanes as model;
@@ -20,10 +21,8 @@ use crate::lane::Lane;
 use crate::schedule::{End, LaneRecord, Record, read_record};
 use pr_core::{Core, OpenFault};
 use pr_io::{Disk, Failed, Medium, Sink, Source};
+use pr_words::PIECE;
 use std::alloc::{AllocError, Global};
-
-/// The most bytes of an arrival.
-const ARRIVAL: usize = 65_535;
 
 /// The most bytes of a schedule that are looked at.
 const BUDGET: u64 = 1 << 32;
@@ -66,7 +65,7 @@ fn act<K: Sink, M: Medium, D: Disk>(
     requires agrees { Agrees (lane_of lane.old).phase
         (schedules.lane_of (lane_record_of found body.now)) core.old }
     requires held { IsHeldOf found }
-    requires room { 65535 ≤ length body.now }
+    requires room { PIECE ≤ length body.now }
     ensures all { OnOk result (Ran (RunsRecord (lane_record_of found body.now))
         (told_sink K.Sink sink.old) (told_sink K.Sink sink.new)
         core.old (lane_of lane.old) core.new (lane_of lane.new)) }
@@ -98,7 +97,7 @@ fn act_on<K: Sink, M: Medium, D: Disk>(
 ) -> Result<(), Failed>
     requires agree { AllAgree (lanes_of lanes.old) core.old }
     requires held { IsHeldOf found }
-    requires room { 65535 ≤ length body.now }
+    requires room { PIECE ≤ length body.now }
     requires valid { schedules.IsRecord (length lanes.old) (lane_record_of found body.now) }
     ensures all { OnOk result (Ran (ActsOn RunsRecord (lane_record_of found body.now))
         (told_sink K.Sink sink.old) (told_sink K.Sink sink.new)
@@ -153,9 +152,9 @@ fn read_into<S: Source>(
     left: u64,
     body: &mut Vec<u8>,
 ) -> Result<Record, End>
-    requires { vec_len body.old ≡ 65535 }
+    requires { vec_len body.old ≡ PIECE }
     ensures reads { Reads lanes left result (S.rest source.old) (S.rest source.new) body.new.items }
-    ensures room { vec_len body.new ≡ 65535 }
+    ensures room { vec_len body.new ≡ PIECE }
     ensures faults { S.faults source.new ≡ faults_read result (S.faults source.old) }
 {
     read_record(source, lanes, left, body)
@@ -164,7 +163,7 @@ fn read_into<S: Source>(
 /// How many bytes of a schedule a record of a lane takes.
 fn size_of(found: LaneRecord) -> u64
     requires { IsHeldOf found }
-    ensures size { (body : List ℕ) → 65535 ≤ length body →
+    ensures size { (body : List ℕ) → PIECE ≤ length body →
         result ≡ length (schedules.spelled_record (lane_record_of found body)) }
     ensures some { 4 ≤ result }
 {
@@ -185,15 +184,15 @@ fn run_one<S: Source, K: Sink, M: Medium, D: Disk>(
     body: &mut Vec<u8>,
 ) -> Result<Event, Stop>
     requires agree { AllAgree (lanes_of lanes.old) core.old }
-    requires most { length lanes.old ≤ 64 }
-    requires room { vec_len body.old ≡ 65535 }
+    requires most { length lanes.old ≤ LANES }
+    requires room { vec_len body.old ≡ PIECE }
     ensures does { RunsOne (length lanes.old) left result
         (told_streams S.Source K.Sink source.old sink.old)
         (told_streams S.Source K.Sink source.new sink.new)
         core.old (lanes_of lanes.old) core.new (lanes_of lanes.new) }
     ensures agree { AllAgree (lanes_of lanes.new) core.new }
     ensures count { length lanes.new ≡ length lanes.old }
-    ensures room { vec_len body.new ≡ 65535 }
+    ensures room { vec_len body.new ≡ PIECE }
 {
     let found = match read_into(source, lanes.len() as u8, left, body) {
         Ok(Record::OfLane(found)) => found,
@@ -230,8 +229,8 @@ fn run<S: Source, K: Sink, M: Medium, D: Disk>(
     budget: u64,
 ) -> (Exit, D, M)
     requires fresh { lanes_of lanes.old ≡ replicate (length lanes.old) fresh }
-    requires most { length lanes.old ≤ 64 }
-    requires room { vec_len body.old ≡ 65535 }
+    requires most { length lanes.old ≤ LANES }
+    requires room { vec_len body.old ≡ PIECE }
     ensures ends { RunEnds (λ h. Leaves opened result.0 result.1 result.2 h) (length lanes.old)
         budget result.0
         (told_streams S.Source K.Sink source.old sink.old)
@@ -308,7 +307,7 @@ fn replay_over<S: Source, K: Sink, M: Medium, D: Disk>(
     medium: &mut M,
     disk: D,
 ) -> (Exit, D)
-    requires { (1 ≤ lanes) × (lanes ≤ 64) }
+    requires { (1 ≤ lanes) × (lanes ≤ LANES) }
     ensures stands { Stands ((source.new ≡ source.old) × (sink.new ≡ sink.old)
         × (medium.new ≡ medium.old)) lanes budget result.0
         (told S.Source K.Sink M.Medium D.Disk source.old sink.old medium.old disk)
@@ -322,7 +321,7 @@ fn replay_over<S: Source, K: Sink, M: Medium, D: Disk>(
     let Ok(mut sessions) = fresh_lanes(alloc, lanes) else {
         return (Exit::NoMemory, disk);
     };
-    let Ok(mut body) = vec![in alloc; 0u8; ARRIVAL] else {
+    let Ok(mut body) = vec![in alloc; 0u8; PIECE] else {
         return (Exit::NoMemory, disk);
     };
     match Core::open(alloc, medium, disk) {
@@ -360,7 +359,7 @@ pub fn replay_within<S: Source, K: Sink, M: Medium, D: Disk>(
     medium: &mut M,
     disk: &mut D,
 ) -> Exit
-    requires { (1 ≤ lanes) × (lanes ≤ 64) }
+    requires { (1 ≤ lanes) × (lanes ≤ LANES) }
 
     // The headline: one history whose run over the records read gives the bytes written, legal over
     // the medium and the file handed in and fenced; the medium ends with what it says; and power

@@ -1,5 +1,6 @@
 ghost use Rattle.std.specs.Prelude.{◌≡◌, ◌≤◌, ◌<◌, ℕ, List, true, length, slice_index, IfOk, IfErr, OnOk};
 ghost use Rattle.pr_io.specs.Streams.{Took};
+ghost use Rattle.pr_words.specs.declared.limits.TheConstants.{PIECE};
 ghost use Rattle.pr_grammar.specs.Schedules as schedules;
 ghost use Rattle.pr_tool.specs.Counting.{faults_at, faults_read};
 ghost use Rattle.pr_tool.specs.Reading.{lane_record_of, Reads, Stops, Cuts, Ends, end_at};
@@ -138,7 +139,7 @@ fn read_cut_head<S: Source>(source: &mut S, lanes: u8, left: u64) -> End
 
 /// Reads the bytes of an arrival behind its head, of `left` bytes that may still be looked at.
 fn read_body<S: Source>(source: &mut S, left: u64, body: &mut [u8]) -> Result<(), End>
-    requires { length body.old < 65536 }
+    requires { length body.old ≤ PIECE }
     ensures took { OnOk result (Took (S.rest source.old) (S.rest source.new) body.new) }
     ensures room { OnOk result (length body.old ≤ left) }
     ensures cuts { IfErr result (λ end. Cuts (length body.old) left end (S.rest source.old)
@@ -173,7 +174,7 @@ pub(crate) fn read_record<S: Source>(
     left: u64,
     body: &mut [u8],
 ) -> Result<Record, End>
-    requires { 65535 ≤ length body.old }
+    requires { PIECE ≤ length body.old }
     ensures reads { Reads lanes left result (S.rest source.old) (S.rest source.new) body.new }
     ensures faults { S.faults source.new ≡ faults_read result (S.faults source.old) }
 {

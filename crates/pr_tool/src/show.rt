@@ -14,11 +14,8 @@ use crate::exit::Exit;
 use crate::lines::{LINE, push_bad, push_cut, push_end, push_frame};
 use pr_io::{Failed, Sink, Source, put_all};
 use pr_link::{Deframer, Frame, Got};
-use pr_words::Side;
+use pr_words::{HELD, Side};
 use std::alloc::{AllocError, Global};
-
-/// The longest frame's bytes, which the work buffer has room for.
-const WORK: usize = 524_320;
 
 /// The bytes of lines that wait to be put.
 const TEXT: usize = 65_536;
@@ -66,10 +63,10 @@ fn take_into<S: Source>(source: &mut S, work: &mut Vec<u8>, room: usize) -> Resu
 /// What stands at the front of the stream once the first bytes of the buffer have come, of which
 /// there are no more than there is room for.
 fn next_at(deframer: &mut Deframer, work: &mut [u8], n: usize) -> Got
-    requires work { length work.old ≡ 524320 }
+    requires work { length work.old ≡ HELD }
     requires side { (stream_of deframer.old).side ≡ Target }
     requires unbroken { (stream_of deframer.old).broken ≡ None }
-    requires room { length (held_of deframer.old) + n ≤ 524320 }
+    requires room { length (held_of deframer.old) + n ≤ HELD }
     ensures { Finds (stream_of deframer.old) (take n work.old) result
         (stream_of deframer.new) work.new }
 {
@@ -79,10 +76,10 @@ fn next_at(deframer: &mut Deframer, work: &mut [u8], n: usize) -> Got
 
 /// The same with the work buffer.
 fn next_in(deframer: &mut Deframer, work: &mut Vec<u8>, n: usize) -> Got
-    requires work { length work.old.items ≡ 524320 }
+    requires work { length work.old.items ≡ HELD }
     requires side { (stream_of deframer.old).side ≡ Target }
     requires unbroken { (stream_of deframer.old).broken ≡ None }
-    requires room { length (held_of deframer.old) + n ≤ 524320 }
+    requires room { length (held_of deframer.old) + n ≤ HELD }
     ensures finds { Finds (stream_of deframer.old) (take n work.old.items) result
         (stream_of deframer.new) work.new.items }
     ensures len { length work.new.items ≡ length work.old.items }
@@ -98,8 +95,8 @@ fn put_line<K: Sink>(
     frame: &Frame,
     work: &[u8],
 ) -> Result<(), Failed>
-    requires taken { 65536 ≤ vec_capacity text.old }
-    requires room { vec_len text.old + 128 ≤ 65536 }
+    requires taken { TEXT ≤ vec_capacity text.old }
+    requires room { vec_len text.old + LINE ≤ TEXT }
     requires within { frame.now.body ≤ length work.now }
     requires body { is_body Target frame.now.kind (take frame.now.body work.now) ≡ true }
     ensures all { OnOk result ((sent : List ℕ) × Put (K.written sink.old) (K.written sink.new) sent
@@ -107,8 +104,8 @@ fn put_line<K: Sink>(
         sent ++ text.new.items)) }
     ensures some { OnErr result (PutSome (K.written sink.old) (K.written sink.new) (text.old.items
         ++ line_of (frame_of frame.now (take frame.now.body work.now)))) }
-    ensures taken { 65536 ≤ vec_capacity text.new }
-    ensures room { OnOk result (vec_len text.new + 128 ≤ 65536) }
+    ensures taken { TEXT ≤ vec_capacity text.new }
+    ensures room { OnOk result (vec_len text.new + LINE ≤ TEXT) }
     ensures cause { HasCause (K.faults sink.old) (K.faults sink.new) result }
 {
     push_frame(text, frame, &work[..frame.body]);
@@ -121,16 +118,16 @@ fn put_line<K: Sink>(
 
 /// Memory for the longest frame.
 fn work_buffer(alloc: Global) -> Result<Vec<u8>, AllocError>
-    ensures { IfOk result (λ v. length v.items ≡ 524320) }
+    ensures { IfOk result (λ v. length v.items ≡ HELD) }
 {
-    Ok(vec![in alloc; 0u8; WORK]?)
+    Ok(vec![in alloc; 0u8; HELD]?)
 }
 
 /// Memory for lines.
 fn text_buffer(alloc: Global) -> Result<Vec<u8>, AllocError>
     ensures items { IfOk result (λ v. v.items ≡ []) }
     ensures len { IfOk result (λ v. vec_len v ≡ 0) }
-    ensures room { IfOk result (λ v. 65536 ≤ vec_capacity v) }
+    ensures room { IfOk result (λ v. TEXT ≤ vec_capacity v) }
 {
     Vec::with_capacity(alloc, TEXT)
 }
@@ -166,8 +163,8 @@ impl Viewer {
 
     /// The stream has ended.
     fn end<K: Sink>(&mut self, sink: &mut K) -> Exit
-        requires taken { 65536 ≤ vec_capacity self.old.text }
-        requires room { vec_len self.old.text + 128 ≤ 65536 }
+        requires taken { TEXT ≤ vec_capacity self.old.text }
+        requires room { vec_len self.old.text + LINE ≤ TEXT }
         ensures ends { (fs : List frames.Frame) (lacks : ℕ) → self.old.frames ≡ length fs →
             place_of self.old.deframer ≡ size_of_all fs →
             EndsWith Exit.Done result (K.written sink.old) (K.written sink.new)

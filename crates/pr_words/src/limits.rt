@@ -42,3 +42,15 @@ pub const LIMIT: usize = 64;
 
 /// The most known nexuses.
 pub const KNOWN: usize = 256;
+
+/// The most registrations of which the data of a PERSISTENT RESERVE IN tells: of so many, each
+/// length fits its field of four bytes.
+pub const REPORTABLE: usize = 65_536;
+
+const _: () = prove!(DATA == BLOCK * TRANSFER);
+
+const _: () = prove!(BODY == COMMAND_HEAD + DATA);
+
+const _: () = prove!(HELD == FRAME_HEAD + BODY);
+
+const _: () = prove!(FRAME_LENGTH == HELD - 4);

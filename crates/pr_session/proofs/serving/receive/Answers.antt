@@ -2,6 +2,7 @@ use Rattle.std.proofs.Common.{rules, ◌-◌, length, ℕ, Ok, sym, subst}
 use Rattle.pr_session.specs.declared.session_end.SessionEnd.{SessionEnd}
 use Rattle.pr_session.specs.Sessions.{lane_of}
 use Rattle.pr_io.specs.Streams.{HasEnded}
+use Rattle.pr_words.specs.declared.limits.TheConstants.{HELD}
 use Rattle.pr_session.specs.Feeding.{Takes}
 use Rattle.pr_session.specs.Ends.{Over, IsCaused, ComesOfEnd}
 use Rattle.pr_session.proofs.Servings.{since_taken, over_taken, over_failed, end_caused, end_comes, no_more}
@@ -36,5 +37,5 @@ returns-in-Ok-eq0-clause-ended g c =
     let s = c.args.session.now in
     let t = c.take_from.new.self in
     let after = g.S.Source.rest c.take_from.new.source in
-    let ended : HasEnded after 0 (524320 - length (lane_of s).bytes) = subst (λ (n : ℕ). HasEnded after n (524320 - length (lane_of s).bytes)) (search rules) c.in-Ok-eq0.ensures.end in
+    let ended : HasEnded after 0 (HELD - length (lane_of s).bytes) = subst (λ (n : ℕ). HasEnded after n (HELD - length (lane_of s).bytes)) (search rules) c.in-Ok-eq0.ensures.end in
     subst (λ (e : SessionEnd). ComesOfEnd e (lane_of t) after) (sym c.end_of.ensures) (end_comes (lane_of t) after (no_more after (lane_of s) c.requires.awaits c.requires.idle ended))

@@ -1,8 +1,8 @@
 use Rattle.std.proofs.Common.{◌≡◌, ◌≤◌, ◌<◌, ◌-◌, length, drop}
-use Rattle.pr_model.specs.Limits.{HELD}
 use Rattle.pr_model.specs.Lanes.{Dead, arrived}
 use Rattle.pr_core.specs.View.{KeepsOthers}
 use Rattle.pr_io.specs.Told.{told_sink}
+use Rattle.pr_words.specs.declared.limits.TheConstants.{HELD}
 use Rattle.pr_session.specs.Driving.{Agrees, left_of}
 use Rattle.pr_tool.specs.Exits.{Ran}
 use Rattle.pr_tool.specs.Lanes.{lane_of}

@@ -1,5 +1,6 @@
 use Rattle.std.proofs.Common.{◌≡◌, ◌≤◌, length, vec_len}
 use Rattle.pr_io.specs.Told.{told_streams}
+use Rattle.pr_words.specs.declared.limits.TheConstants.{PIECE}
 use Rattle.pr_session.specs.Driving.{AllAgree}
 use Rattle.pr_tool.specs.Exits.{GoesOn}
 use Rattle.pr_tool.specs.Lanes.{lanes_of}
@@ -14,7 +15,7 @@ invariant-records g l =
       within : l.left ≤ l.budget;
       agree : AllAgree (lanes_of l.lanes) l.core;
       count : length l.lanes ≡ length l.initial.lanes;
-      room : vec_len l.body ≡ 65535;
+      room : vec_len l.body ≡ PIECE;
     }
 
 abbrev pub decreases-records : goal.decreases-records

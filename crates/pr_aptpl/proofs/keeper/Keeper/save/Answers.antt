@@ -1,6 +1,7 @@
 use Rattle.std.proofs.Common.{◌≡◌, ◌∙◌, ℕ, [], ◌∷◌, take, sym, subst, lit<}
 use Rattle.pr_grammar.specs.Files.{file_head, file_layout, spelled_slot}
 use Rattle.pr_io.specs.declared.outside.Failed.{Failed}
+use Rattle.pr_words.specs.declared.limits.TheConstants.{LIMIT}
 use Rattle.pr_model.specs.Keeping.{kept}
 use Rattle.pr_table.specs.Tables.{standing_of}
 use Rattle.pr_aptpl.specs.Slots.{Stands}
@@ -20,14 +21,14 @@ returns-in_err-close-clause-saves g c ks st =
 pub returns-in_err-fill-clause-saves : goal.returns-in_err-fill-clause-saves
 returns-in_err-fill-clause-saves g c ks st =
     let e = after_two file_head file_layout apart c.args.self.now.aim.target c.args.self.now.aim.turn _ c.gate-gate.ensures ks _ _ c.close.result _ _ c.close.ensures.closes st _ c.in_ok-close.was _ c.fill.result _
-    (body_small c.spell_into-len.result 64 c.deref.result.now c.spell_into-len.new.buffer.items c.deref.ensures.value c.spell_into-len.ensures.room c.spell_into-len.ensures.most) c.fill.ensures.puts
+    (body_small c.spell_into-len.result LIMIT c.deref.result.now c.spell_into-len.new.buffer.items c.deref.ensures.value c.spell_into-len.ensures.room c.spell_into-len.ensures.most) c.fill.ensures.puts
     c.from_residual-in_err-fill.result (kept (standing_of c.args.table.now)) c.from_residual-in_err-fill.ensures.0 c.in_ok-close.ensures.closes.closed in
     record { moments = e.0; at_end = e.1; stands = e.2 }
 
 pub returns-in_err-open_gate-clause-saves : goal.returns-in_err-open_gate-clause-saves
 returns-in_err-open_gate-clause-saves g c ks st =
     let e = after_three file_head file_layout apart c.args.self.now.aim.target c.args.self.now.aim.turn _ c.gate-gate.ensures ks _ _ c.close.result _ _ c.close.ensures.closes st _ c.in_ok-close.was _ c.fill.result _
-    (body_small c.spell_into-len.result 64 c.deref.result.now c.spell_into-len.new.buffer.items c.deref.ensures.value c.spell_into-len.ensures.room c.spell_into-len.ensures.most) c.fill.ensures.puts
+    (body_small c.spell_into-len.result LIMIT c.deref.result.now c.spell_into-len.new.buffer.items c.deref.ensures.value c.spell_into-len.ensures.room c.spell_into-len.ensures.most) c.fill.ensures.puts
     _ c.in_ok-fill.was (standing_of c.args.table.now) c.requires.formed c.requires.ports c.spell_into-len.ensures.fits (lit< tt)
     (body_spelled c.spell_into-len.result _ (kept (standing_of c.args.table.now)) c.deref.result.now c.spell_into-len.new.buffer.items c.deref.ensures.value
     (subst (λ (t : ℕ). take c.spell_into-len.result c.spell_into-len.new.buffer.items ≡ spelled_slot t (kept (standing_of c.args.table.now))) c.next_turn-turn.ensures.turn c.spell_into-len.ensures.bytes))
@@ -38,7 +39,7 @@ returns-in_err-open_gate-clause-saves g c ks st =
 pub returns-clause-saves : goal.returns-clause-saves
 returns-clause-saves g c ks st =
     let e = after_all file_head file_layout apart c.args.self.now.aim.target c.args.self.now.aim.turn _ c.gate-gate.ensures ks _ _ c.close.result _ _ c.close.ensures.closes st _ c.in_ok-close.was _ c.fill.result _
-    (body_small c.spell_into-len.result 64 c.deref.result.now c.spell_into-len.new.buffer.items c.deref.ensures.value c.spell_into-len.ensures.room c.spell_into-len.ensures.most) c.fill.ensures.puts
+    (body_small c.spell_into-len.result LIMIT c.deref.result.now c.spell_into-len.new.buffer.items c.deref.ensures.value c.spell_into-len.ensures.room c.spell_into-len.ensures.most) c.fill.ensures.puts
     _ c.in_ok-fill.was (standing_of c.args.table.now) c.requires.formed c.requires.ports c.spell_into-len.ensures.fits (lit< tt)
     (body_spelled c.spell_into-len.result _ (kept (standing_of c.args.table.now)) c.deref.result.now c.spell_into-len.new.buffer.items c.deref.ensures.value
     (subst (λ (t : ℕ). take c.spell_into-len.result c.spell_into-len.new.buffer.items ≡ spelled_slot t (kept (standing_of c.args.table.now))) c.next_turn-turn.ensures.turn c.spell_into-len.ensures.bytes))

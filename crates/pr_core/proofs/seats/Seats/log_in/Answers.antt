@@ -1,5 +1,5 @@
 use Rattle.std.proofs.Common.{◌≡◌, ◌<◌, ◌+◌, ◌∷◌, ◌++◌, true, cond, take, drop, is_ok, vec_len, vec_capacity, refl, sym, ap, subst, ◌∙◌, Some, None, List}
-use Rattle.pr_model.specs.Limits.{KNOWN}
+use Rattle.pr_words.specs.declared.limits.TheConstants.{KNOWN}
 use Rattle.pr_model.specs.Worlds.{set_at}
 use Rattle.pr_core.specs.declared.seats.Seat.{Seat}
 use Rattle.pr_core.specs.Places.{seat_in, IsAscending}

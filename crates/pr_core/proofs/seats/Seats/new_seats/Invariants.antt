@@ -1,5 +1,5 @@
 use Rattle.std.proofs.Common.{◌≡◌, ◌-◌, ◌≤◌, ◌++◌, drop, length, vec_len, vec_capacity}
-use Rattle.pr_model.specs.Limits.{KNOWN}
+use Rattle.pr_words.specs.declared.limits.TheConstants.{KNOWN}
 use Rattle.pr_table.specs.Tables.{standing_of}
 use Rattle.pr_core.proofs.Restoring.{seats_for}
 use Rattle.pr_core.proofs.seats.Seats.new_seats.Given as goal

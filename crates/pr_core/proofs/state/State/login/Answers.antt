@@ -1,7 +1,7 @@
 use Rattle.std.proofs.Common.{◌≡◌, ◌⊎◌, inl, inr, true, false, is_some, not, nat_lt, Option, Some, refl, sym, ap, ◌∙◌}
 use Rattle.std.proofs.lemmas.Bool.{false≢true}
 use Rattle.pr_words.specs.declared.nexus.Nexus.{Nexus}
-use Rattle.pr_model.specs.Limits.{KNOWN}
+use Rattle.pr_words.specs.declared.limits.TheConstants.{KNOWN}
 use Rattle.pr_model.specs.Entries.{Login_code}
 use Rattle.pr_model.specs.Histories.{login_code}
 use Rattle.pr_core.specs.declared.seats.Seat.{Seat}

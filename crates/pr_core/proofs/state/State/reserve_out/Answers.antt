@@ -1,7 +1,7 @@
 use Rattle.std.proofs.Common.{◌≡◌, ◌∙◌, refl, sym, ap, subst, not, ℕ, ◌<◌, lit<}
+use Rattle.pr_words.specs.declared.limits.TheConstants.{LIMIT}
 use std.Path.{fun_ext}
 use Rattle.pr_grammar.specs.Standings.{Standing}
-use Rattle.pr_model.specs.Limits.{LIMIT}
 use Rattle.pr_model.specs.Acts.{acted}
 use Rattle.pr_model.specs.Keeping.{kept, same_kept}
 use Rattle.pr_model.specs.Registrants.{IsWellFormed}

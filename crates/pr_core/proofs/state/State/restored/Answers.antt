@@ -1,6 +1,6 @@
 use Rattle.std.proofs.Common.{◌≡◌, sym, subst}
+use Rattle.pr_words.specs.declared.limits.TheConstants.{LIMIT}
 use Rattle.pr_grammar.specs.Standings.{Standing}
-use Rattle.pr_model.specs.Limits.{LIMIT}
 use Rattle.pr_model.specs.Registrants.{IsWellFormed}
 use Rattle.pr_model.specs.Worlds.{restored}
 use Rattle.pr_table.specs.Tables.{standing_of}

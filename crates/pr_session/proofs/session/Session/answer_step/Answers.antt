@@ -1,4 +1,5 @@
 use Rattle.std.proofs.Common.{◌≡◌, length, subst, arith}
+use Rattle.pr_words.specs.declared.limits.TheConstants.{HELD}
 use Rattle.pr_link.specs.Deframer.{held_of, place_of}
 use Rattle.pr_session.specs.Jobs.{FitsStep}
 use Rattle.pr_session.specs.Sessions.{work_of}
@@ -13,5 +14,5 @@ returns-in-Wrote-clause-turned c =
 pub returns-in-Read-clause-turned : goal.returns-in-Read-clause-turned
 returns-in-Read-clause-turned c =
     let s = c.args.self.now in
-    let size : length (work_of s) ≡ 524320 = omega (arith, s.work.room) in
+    let size : length (work_of s) ≡ HELD = omega (arith, s.work.room) in
     read_turn c.args.nexus c.args.job c.after_read.result (work_of s) (held_of s.deframer) (place_of s.deframer) c.args.out c.in-Read.lba c.go_on-in-Read.new.self size c.in-Read.is (subst (FitsStep c.args.job) c.in-Read.is c.requires) c.after_read.ensures.head c.after_read.ensures.bytes c.go_on-in-Read.ensures.turned

@@ -1,6 +1,7 @@
 use Rattle.std.proofs.Common.{◌≡◌, ℕ, List, take, length, refl, sym, ap, ◌∙◌, subst, arith, ◌≤◌, inl, inr}
 use Rattle.std.proofs.lemmas.List.{length-drop, length-take}
 use Rattle.pr_words.specs.declared.nexus.Nexus.{Nexus}
+use Rattle.pr_words.specs.declared.limits.TheConstants.{DATA, COMMAND_HEAD}
 use Rattle.pr_grammar.specs.Bodies.{command_data}
 use Rattle.pr_model.specs.Entries as entries
 use Rattle.pr_model.specs.Lanes.{Phase, Fresh, In, Turn, Asks, asked, broken, after_login, after_command}
@@ -50,7 +51,7 @@ returns-in-Command-request c l same =
     let turn = serves _ (In n) c.args.place c.args.head body held (Command cdb sent) from c.requires.formed.2 read
     ∙ ap (λ (p : ℕ). Asks n (entries.Command lun cdb (command_data body)) (after_command n (frame_of c.args.head body) held p)) (sym c.requires.placed) in
     let within : c.args.head.body ≤ length work = omega (arith, c.requires.formed.0, c.args.self.now.work.room) in
-    let short : sent ≤ 524288 = omega (arith, counted, length-drop 20 body, length-take c.args.head.body work, c.requires.formed.0) in
+    let short : sent ≤ DATA = omega (arith, counted, length-drop COMMAND_HEAD body, length-take c.args.head.body work, c.requires.formed.0) in
     let sent_is : take sent (data_in (work_of after.new.self)) ≡ command_data body = ap (λ w. take sent (data_in (bytes_of w))) after.ensures.work ∙ data_out work c.args.head.body sent within counted in
     let next = λ (out : entries.Out). ap (λ d. next_by (what.Command c.args.head n cdb sent) (work_of after.new.self) (held_of d) (place_of d) out) after.ensures.stream ∙ command_next c.args.head body n cdb sent (work_of after.new.self) held place sent_is out in
     let wanted = asks (In n) n (entries.Command lun cdb (command_data body)) (after_command n (frame_of c.args.head body) held place) after.result after.new.self (what.Command c.args.head n cdb sent) after.ensures.state after.ensures.want refl (ap (entries.Command lun cdb) sent_is) (refl, short) next in
