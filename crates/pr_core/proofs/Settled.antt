@@ -24,7 +24,7 @@ use Rattle.pr_core.specs.declared.answers.CommandOut.{CommandOut}
 use Rattle.pr_core.specs.declared.answers.CommandOut.TheVariants as outs
 use Rattle.pr_words.specs.declared.code.Status.TheVariants as status
 use Rattle.pr_words.specs.declared.code.TheConstants.Code.{INTERNAL_TARGET_FAILURE}
-use Rattle.pr_words.specs.declared.code.TheConstants.{ILLEGAL_REQUEST}
+use Rattle.pr_words.specs.declared.code.TheConstants.{ILLEGAL_REQUEST, HARDWARE_ERROR}
 use Rattle.pr_core.specs.declared.state.State.{State}
 use Rattle.pr_core.specs.Counting.{faults_after}
 use Rattle.pr_core.specs.Outs.{out_of}
@@ -34,14 +34,14 @@ use Rattle.pr_core.specs.States.{Depicts}
 
 -- no code of a refusal is that of a save that failed
 
-not_four : (k : ℕ) → 4 < k → (k == 4) ≡ false
-not_four k more = grind (arith, nat_tests)
+no_failure : (k : ℕ) → HARDWARE_ERROR < k → (k == HARDWARE_ERROR) ≡ false
+no_failure k more = grind (arith, nat_tests)
 
 pub refusal_counts : (c : Code) → IsRefusal c → failures_by (checking c) ≡ 0
-refusal_counts c refusal = rw (not_four c.key refusal.0) refl
+refusal_counts c refusal = rw (no_failure c.key refusal.0) refl
 
 pub illegal_request : (c : Code) → c.key ≡ ILLEGAL_REQUEST → IsRefusal c
-illegal_request c five = (subst (λ (k : ℕ). 4 < k) (sym five) (lit< tt), subst (λ (k : ℕ). k < 16) (sym five) (lit< tt))
+illegal_request c five = (subst (λ (k : ℕ). HARDWARE_ERROR < k) (sym five) (lit< tt), subst (λ (k : ℕ). k < 16) (sym five) (lit< tt))
 
 -- a story to which nothing happened
 pub still_goes : (s : Story) (P : Image → Type 0) → ((c : Image) → s.may s.moment c → P c) → Goes s s P

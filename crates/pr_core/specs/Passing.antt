@@ -4,6 +4,7 @@ use Rattle.pr_words.specs.declared.code.Code.{Code}
 use Rattle.pr_words.specs.declared.task.Way.{Way}
 use Rattle.pr_words.specs.declared.task.Way.TheVariants as ways
 use Rattle.pr_words.specs.Services.{in_service_code, out_service_code}
+use Rattle.pr_words.specs.declared.code.TheConstants.{HARDWARE_ERROR}
 use Rattle.pr_grammar.specs.declared.operation.OperationCode.{OperationCode}
 use Rattle.pr_grammar.specs.declared.cdb.Command.{Command}
 use Rattle.pr_grammar.specs.declared.cdb.Command.TheVariants.{TestUnitReady, RequestSense, Inquiry, ReadCapacity10, ReadCapacity16, ReportLuns, Read, Write, SynchronizeCache, ReserveIn, ReserveOut}
@@ -30,7 +31,7 @@ Give checks a = (last : Answer) → first_or checks last ≡ a
 
 -- the code of a refusal: its sense key has four bits, and isn't HARDWARE ERROR, which is that of a save that failed (SPC-4, sense keys)
 abbrev pub IsRefusal : Code → Type 0
-IsRefusal c = (4 < c.key) × (c.key < 16)
+IsRefusal c = (HARDWARE_ERROR < c.key) × (c.key < 16)
 
 -- CHECK CONDITION with the code of a refusal; the world stays
 abbrev pub Refuse : (World → List (Option Answer)) → Code → Type 0

@@ -8,7 +8,7 @@ use Rattle.pr_words.specs.declared.nexus.Nexus.{Nexus}
 use Rattle.pr_words.specs.declared.code.Sense.{Sense}
 use Rattle.pr_words.specs.declared.code.Status.{Status}
 use Rattle.pr_words.specs.declared.code.Status.TheVariants.{Good, CheckCondition, ReservationConflict, TaskAborted}
-use Rattle.pr_words.specs.declared.limits.TheConstants.{DATA}
+use Rattle.pr_words.specs.declared.limits.TheConstants.{DATA, COMMAND_HEAD}
 use Rattle.pr_grammar.specs.Senses.{fixed_sense}
 
 abbrev pub is_zero : ℕ → Bool
@@ -40,14 +40,14 @@ announced_cdb body = slice_index body 0
 
 abbrev pub is_command_body : List ℕ → Bool
 is_command_body body =
-    not (nat_lt (length body) 20) && nat_lt 0 (announced_cdb body) && nat_lt (announced_cdb body) 17
-    && list_all is_zero (slice_range body 1 4) && list_all is_zero (slice_range body (4 + announced_cdb body) 20)
+    not (nat_lt (length body) COMMAND_HEAD) && nat_lt 0 (announced_cdb body) && nat_lt (announced_cdb body) 17
+    && list_all is_zero (slice_range body 1 4) && list_all is_zero (slice_range body (4 + announced_cdb body) COMMAND_HEAD)
 
 abbrev pub command_cdb : List ℕ → List ℕ
 command_cdb body = slice_range body 4 (4 + announced_cdb body)
 
 abbrev pub command_data : List ℕ → List ℕ
-command_data body = drop 20 body
+command_data body = drop COMMAND_HEAD body
 
 -- Login reply: a code, and three zero bytes
 

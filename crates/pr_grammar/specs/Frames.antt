@@ -4,7 +4,7 @@ use Rattle.std.specs.Int.{w16, w32, to_be_bytes}
 use Rattle.pr_words.specs.Fields.{number16_at, number32_at}
 use Rattle.pr_words.specs.declared.nexus.Side.{Side}
 use Rattle.pr_words.specs.declared.nexus.Side.TheVariants.{Target, Initiator}
-use Rattle.pr_words.specs.declared.limits.TheConstants.{FRAME_LENGTH}
+use Rattle.pr_words.specs.declared.limits.TheConstants.{FRAME_LENGTH, FRAME_HEAD}
 use Rattle.pr_grammar.specs.Bodies.{is_login_body, is_command_body, is_login_reply, is_command_reply, is_reject}
 
 pub record Frame : Type 0 where
@@ -22,7 +22,7 @@ spelled f = to_be_bytes w32 (8 + length f.body) ++ (f.kind ∷ 0 ∷ []) ++ to_b
 
 -- how many bytes a frame takes in its stream
 abbrev pub frame_size : Frame → ℕ
-frame_size f = 12 + length f.body
+frame_size f = FRAME_HEAD + length f.body
 
 -- what stands at the front of a stream: so many bytes lack, or this rule is broken, or a frame and what is behind it
 pub data Front : Type 0 where

@@ -2,6 +2,7 @@
 use Rattle.std.specs.Prelude.{ℕ, ◌+◌, ◌*◌, ◌/◌, ◌%◌, ◌==◌, not, Bool, List, [], ◌∷◌, ◌++◌, length, slice_index, Result, Ok, Err, if◌then◌else◌}
 use Rattle.std.specs.Int.{w64, to_be_bytes}
 use Rattle.pr_words.specs.Fields.{number64_at}
+use Rattle.pr_words.specs.declared.limits.TheConstants.{PARAMETER_LIST}
 use Rattle.pr_grammar.specs.Cdbs.{bit}
 use Rattle.pr_grammar.specs.declared.param.OutList.{OutList}
 use Rattle.pr_grammar.specs.declared.param.ParamFault.{ParamFault}
@@ -31,7 +32,7 @@ is_all_tg_pt flags = flags / 4 % 2 == 1
 abbrev pub is_aptpl : ℕ → Bool
 is_aptpl flags = flags % 2 == 1
 
--- the list in 24 bytes, whatever they are: obsolete and reserved bits and bytes are ignored
+-- the list in its bytes, whatever they are: obsolete and reserved bits and bytes are ignored
 abbrev pub list_of : List ℕ → OutList
 list_of sent = record {
   key = list_key sent;
@@ -42,7 +43,7 @@ list_of sent = record {
 }
 
 abbrev pub read_list : List ℕ → Result OutList ParamFault
-read_list sent = if not (length sent == 24) then Err (Length (length sent)) else Ok (list_of sent)
+read_list sent = if not (length sent == PARAMETER_LIST) then Err (Length (length sent)) else Ok (list_of sent)
 
 -- byte 20 of a list
 abbrev pub flags_byte : OutList → ℕ

@@ -1,6 +1,6 @@
 -- What comes of a request that is sent on a wire (this project's own).
 use Rattle.std.specs.Prelude.{◌≡◌, ℕ, ◌+◌, ◌≤◌, true, List, [], ◌++◌, take, Option, Result, Ok, Err}
-use Rattle.pr_words.specs.declared.limits.TheConstants.{BODY}
+use Rattle.pr_words.specs.declared.limits.TheConstants.{BODY, FRAME_HEAD}
 use Rattle.pr_words.specs.declared.nexus.Side.TheVariants.{Initiator}
 use Rattle.pr_grammar.specs.Frames.{front, is_body, Lacking, Broken, Whole}
 use Rattle.pr_io.specs.Talks.{Talk}
@@ -20,5 +20,5 @@ SpeaksInVain before now sent (Bad rule) = (heard : List ℕ) × Goes before now 
 -- the request was sent and just a frame was heard, which stands at the front of the buffer; or none
 abbrev pub Speaks : Option Talk → Option Talk → List ℕ → Result Frame Unheard → List ℕ → Type 0
 Speaks before now sent (Ok g) work =
-    Goes before now sent (take (12 + g.body) work) × (front Initiator (take (12 + g.body) work) ≡ Whole (frame_of g (body_in g.body work)) []) × (g.body ≤ BODY) × (is_body Initiator g.kind (body_in g.body work) ≡ true)
+    Goes before now sent (take (FRAME_HEAD + g.body) work) × (front Initiator (take (FRAME_HEAD + g.body) work) ≡ Whole (frame_of g (body_in g.body work)) []) × (g.body ≤ BODY) × (is_body Initiator g.kind (body_in g.body work) ≡ true)
 Speaks before now sent (Err e) work = SpeaksInVain before now sent e

@@ -3,7 +3,7 @@ ghost use Rattle.std.specs.List.{list_all};
 ghost use Rattle.pr_grammar.specs.Bodies.{is_zero, is_login_body, is_command_body, is_login_reply, is_command_reply, is_reject};
 ghost use Rattle.pr_grammar.specs.Frames.{is_kind, is_body};
 
-use pr_words::{Side, get_u64};
+use pr_words::{COMMAND_HEAD, Side, get_u64};
 
 fn are_zeros(bytes: &[u8]) -> bool
     ensures { result ≡ list_all is_zero bytes.now }
@@ -21,12 +21,12 @@ fn is_login(body: &[u8]) -> bool
 /// where they can be.
 #[inline(always)]
 fn is_padded(body: &[u8], size: usize) -> bool
-    requires long { 20 ≤ length body.now }
+    requires long { COMMAND_HEAD ≤ length body.now }
     requires few { size ≤ 16 }
-    ensures { result ≡ list_all is_zero (slice_range body.now (4 + size) 20) }
+    ensures { result ≡ list_all is_zero (slice_range body.now (4 + size) COMMAND_HEAD) }
 {
     if size > 8 {
-        return are_zeros(&body[4 + size..20]);
+        return are_zeros(&body[4 + size..COMMAND_HEAD]);
     }
     are_zeros(&body[4 + size..12]) && get_u64(body, 12) == 0
 }
@@ -35,7 +35,7 @@ fn is_padded(body: &[u8], size: usize) -> bool
 fn is_command(body: &[u8]) -> bool
     ensures { result ≡ is_command_body body.now }
 {
-    if body.len() < 20 {
+    if body.len() < COMMAND_HEAD {
         return false;
     }
     let size = body[0] as usize;

@@ -119,7 +119,7 @@ impl Deframer {
         requires { frame.body ≤ BODY }
         ensures answer { result ≡ Got.Frame frame }
         ensures stream { stream_of self.new ≡ record (stream_of self.old) {
-          place = (place_of self.old + (12 + frame.body)) % 2 ^ 64;
+          place = (place_of self.old + (FRAME_HEAD + frame.body)) % 2 ^ 64;
         } }
     {
         self.place = self.place.wrapping_add((FRAME_HEAD + frame.body) as u64);

@@ -8,7 +8,7 @@ use Rattle.pr_words.specs.declared.task.Way.TheVariants as ways
 use Rattle.pr_words.specs.Kinds.{kind_at}
 use Rattle.pr_words.specs.Services.{in_service_at, out_service_at}
 use Rattle.pr_words.specs.declared.code.TheConstants.Code.{INVALID_COMMAND_OPERATION_CODE, INVALID_FIELD_IN_CDB, INVALID_FIELD_IN_PARAMETER_LIST, LOGICAL_BLOCK_ADDRESS_OUT_OF_RANGE, LOGICAL_UNIT_NOT_SUPPORTED, NO_SENSE, PARAMETER_LIST_LENGTH_ERROR}
-use Rattle.pr_words.specs.declared.limits.TheConstants.{LIMIT, TRANSFER, BLOCK}
+use Rattle.pr_words.specs.declared.limits.TheConstants.{LIMIT, TRANSFER, BLOCK, PARAMETER_LIST}
 use Rattle.pr_grammar.specs.Standings.{Standing}
 use Rattle.pr_grammar.specs.Senses.{fixed_sense, descriptor_sense}
 use Rattle.pr_grammar.specs.declared.cdb.Command.{Command}
@@ -119,7 +119,7 @@ abbrev pub command_checks : World → Command → List ℕ → List (Option Answ
 command_checks w (ReserveOut action scope kind list) sent =
     refused_where (has_bad_service action scope kind) w INVALID_FIELD_IN_CDB
     ∷ length_check w list sent
-    ∷ refused_where (not (list == 24)) w PARAMETER_LIST_LENGTH_ERROR
+    ∷ refused_where (not (list == PARAMETER_LIST)) w PARAMETER_LIST_LENGTH_ERROR
     ∷ refused_where (has_bad_list action (list_of sent)) w INVALID_FIELD_IN_PARAMETER_LIST
     ∷ []
 command_checks w (ReserveIn action allocation) sent =

@@ -2,6 +2,7 @@
 use Rattle.std.proofs.Common.{◌≡◌, ℕ, Bool, true, false, cond, List, ◌∷◌, length, All, refl, ap, ◌∙◌, arith}
 use Rattle.std.specs.Prelude.{Ok, Err, ◌==◌, not}
 use Rattle.std.proofs.lemmas.Bool.{eqb-true, not-false}
+use Rattle.pr_words.specs.declared.limits.TheConstants.{PARAMETER_LIST}
 use Rattle.pr_grammar.specs.declared.param.OutList.{OutList}
 use Rattle.pr_grammar.specs.declared.param.ParamFault.{ParamFault}
 use Rattle.pr_grammar.specs.OutLists.{list_of, spelled_list}
@@ -13,13 +14,13 @@ right_length : (b : Bool) (fault : ParamFault) (there list : OutList) → cond b
 right_length true fault there list e = absurd cc
 right_length false fault there list e = (refl, cc)
 
-list_kept : (bytes : List ℕ) → All IsByte bytes → length bytes ≡ 24 → kept list_mask 0 bytes ≡ spelled_list (list_of bytes)
+list_kept : (bytes : List ℕ) → All IsByte bytes → length bytes ≡ PARAMETER_LIST → kept list_mask 0 bytes ≡ spelled_list (list_of bytes)
 list_kept bytes small long =
     number64_then 0 bytes small (omega (arith, long)) (number64_then 8 bytes small (omega (arith, long))
     (ap (λ ys. 0 ∷ 0 ∷ 0 ∷ 0 ∷ ys) (byte_then (list_bits _ (small_at bytes small 20)) refl)))
 
 pub lists_spelled : ListsAreSpelled
 lists_spelled bytes list small e =
-    let right : (not (length bytes == 24) ≡ false) × (list_of bytes ≡ list) = right_length _ _ (list_of bytes) list e in
-    let long : length bytes ≡ 24 = eqb-true (length bytes) 24 (not-false _ right.0) in
+    let right : (not (length bytes == PARAMETER_LIST) ≡ false) × (list_of bytes ≡ list) = right_length _ _ (list_of bytes) list e in
+    let long : length bytes ≡ PARAMETER_LIST = eqb-true (length bytes) PARAMETER_LIST (not-false _ right.0) in
     masked_kept list_mask bytes (omega (arith, long)) ∙ list_kept bytes small long ∙ ap spelled_list right.1

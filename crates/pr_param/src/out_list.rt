@@ -2,7 +2,7 @@ ghost use Rattle.std.specs.Prelude.{◌≡◌, Ok};
 ghost use Rattle.pr_grammar.specs.OutLists.{read_list, spelled_list};
 
 use pr_grammar::{OutList, ParamFault};
-use pr_words::get_u64;
+use pr_words::{PARAMETER_LIST, get_u64};
 
 /// Reads the parameter list of PERSISTENT RESERVE OUT (SPC-4). Every 24 bytes are one: obsolete and reserved bits and
 /// bytes are ignored.
@@ -13,7 +13,7 @@ use pr_words::get_u64;
 pub fn read_out_list(bytes: &[u8]) -> Result<OutList, ParamFault>
     ensures { result ≡ read_list bytes.now }
 {
-    if bytes.len() != 24 {
+    if bytes.len() != PARAMETER_LIST {
         return Err(ParamFault::Length { have: bytes.len() });
     }
     let flags = bytes[20];
