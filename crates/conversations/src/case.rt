@@ -5,10 +5,8 @@ ghost use Rattle.conversations.specs.Records.{record_of};
 
 use crate::flaw::Flaw;
 use pr_tool::Exit;
+use pr_words::PIECE;
 use std::alloc::Global;
-
-/// The most bytes of a record of a schedule and of an output record (this project's own).
-pub(crate) const RECORD: usize = 65_535;
 
 /// One thing that happens, or that is to come out, in the order in which a person tells it.
 #[derive(Clone, Drop)]
@@ -110,7 +108,7 @@ pub(crate) fn output_of(alloc: Global, events: &[Event]) -> Result<Vec<u8>, Flaw
     let mut output = Vec::new(alloc);
     for event in events {
         match event {
-            Event::Hears(lane, bytes) => add_arrivals(&mut output, *lane, bytes, RECORD, &[])?,
+            Event::Hears(lane, bytes) => add_arrivals(&mut output, *lane, bytes, PIECE, &[])?,
             Event::Prints(bytes) => output.extend_from_slice(bytes)?,
             _ => {}
         }
@@ -164,7 +162,7 @@ impl Stream {
         let (front, back) = self.bytes.split_at(at.min(self.bytes.len()));
         let mut input = Vec::new(alloc);
         for part in [front, back] {
-            add_arrivals(&mut input, 0, part, RECORD, &[])?;
+            add_arrivals(&mut input, 0, part, PIECE, &[])?;
             add_steps(&mut input, self.asks)?;
         }
         Ok(input)

@@ -3,10 +3,11 @@
 ghost use Rattle.std.specs.Prelude.{◌≡◌, ◌≤◌, ◌↔◌};
 ghost use Rattle.conversations.specs.declared.running.Verdict.TheVariants.{Met};
 
-use crate::case::{Below, Case, RECORD, Stream, input_of, output_of};
+use crate::case::{Below, Case, Stream, input_of, output_of};
 use crate::flaw::Flaw;
 use pr_io::{DISK, FRESH_HEAD, MemMedium, MemSink, MemSource, SureDisk};
 use pr_tool::{Exit, replay_main, show_main};
+use pr_words::PIECE;
 use std::alloc::Global;
 
 /// The longest input that is also run byte by byte.
@@ -134,13 +135,13 @@ pub(crate) fn try_case(alloc: Global, case: &Case) -> Result<(Cut, Verdict), Fla
         exit: case.exit,
         output: output_of(alloc, &case.events)?,
     };
-    let input = input_of(alloc, &case.events, RECORD)?;
+    let input = input_of(alloc, &case.events, PIECE)?;
     let is_short = input.len() <= SHORT;
     let verdict = trial.run(alloc, input, usize::MAX)?;
     if verdict != Verdict::Met || !is_short {
         return Ok((Cut::Nowhere, verdict));
     }
-    let input = input_of(alloc, &case.events, RECORD)?;
+    let input = input_of(alloc, &case.events, PIECE)?;
     let verdict = trial.run(alloc, input, 1)?;
     if verdict != Verdict::Met {
         return Ok((Cut::Calls, verdict));

@@ -1,5 +1,5 @@
 ghost use Rattle.std.specs.Prelude.{◌≡◌, ◌<◌, ℕ, List, None};
-ghost use Rattle.pr_model.specs.Commands.{checking, good, code};
+ghost use Rattle.pr_model.specs.Commands.{checking, good};
 ghost use Rattle.pr_core.specs.Outs.{out_of, IsProper, IsEnded};
 
 use pr_words::{Code, Sense, Status, Way};

@@ -1,6 +1,5 @@
 -- What a power loss may restore, and the save that comes before a command is answered (SPC-4, preserving persistent reservations; the save is this project's own).
 use Rattle.std.specs.Prelude.{◌≡◌, ◌⊎◌, ◌&&◌, not, Bool, true, false, List, [], ◌∷◌, ◌++◌, Some, if◌then◌else◌}
-use Rattle.pr_words.specs.declared.code.Code.{Code}
 use Rattle.pr_words.specs.declared.code.Status.TheVariants as status
 use Rattle.pr_words.specs.declared.code.TheConstants.Code.{INTERNAL_TARGET_FAILURE}
 use Rattle.pr_words.specs.declared.limits.TheConstants.{LIMIT}

@@ -1,5 +1,5 @@
 -- Numbers among the words.
-use Rattle.std.proofs.Common.{◌≡◌, ◌∙◌, ◌-◌, ◌≤◌, ◌<◌, ℕ, Bool, true, false, cond, ltb, ◌&&◌, ◌||◌, ◌==◌, not, List, [], ◌∷◌, ◌++◌, length, take, drop, replicate, slice_index, ap, sym, subst, refl, arith}
+use Rattle.std.proofs.Common.{◌≡◌, ◌∙◌, ◌-◌, ◌^◌, ◌≤◌, ◌<◌, ℕ, Bool, true, false, cond, ltb, ◌&&◌, ◌||◌, ◌==◌, not, List, [], ◌∷◌, ◌++◌, length, take, drop, replicate, slice_index, ap, sym, subst, refl, arith}
 use Rattle.std.specs.Prelude.{Result, Ok, Err, Some, None, MatchResult, nat_lt}
 use Rattle.std.specs.Result.{result_ok, OkIff}
 use Rattle.std.specs.List.{list_all}
@@ -86,18 +86,18 @@ none_by true true n never = absurd (never refl refl)
 none_by true false n never = refl
 none_by false c n never = refl
 
-parsed : {E : Type 0} (text : List ℕ) (r : Result ℕ E) → 0 < length text → OkIff r (IsNumeral 10 text × (digits_value 10 text < 65536)) (digits_value 10 text)
-    → result_ok r ≡ cond (list_all is_decimal_digit text && ltb (digits_value 10 text) 65536) (Some (digits_value 10 text)) None
+parsed : {E : Type 0} (text : List ℕ) (r : Result ℕ E) → 0 < length text → OkIff r (IsNumeral 10 text × (digits_value 10 text < 2 ^ 16)) (digits_value 10 text)
+    → result_ok r ≡ cond (list_all is_decimal_digit text && ltb (digits_value 10 text) (2 ^ 16)) (Some (digits_value 10 text)) None
 parsed text (Ok n) some is =
     let all : list_all is_decimal_digit text ≡ true = pass_digits text is.0.0.1 in
-    let few : ltb (digits_value 10 text) 65536 ≡ true = lt-ltb _ _ is.0.1 in
+    let few : ltb (digits_value 10 text) (2 ^ 16) ≡ true = lt-ltb _ _ is.0.1 in
     rw (all, few) (ap Some is.1)
 parsed text (Err e) some is =
-    none_by (list_all is_decimal_digit text) (ltb (digits_value 10 text) 65536) (digits_value 10 text) (λ all few. is ((some, digits_pass text all), ltb-true _ _ few))
+    none_by (list_all is_decimal_digit text) (ltb (digits_value 10 text) (2 ^ 16)) (digits_value 10 text) (λ all few. is ((some, digits_pass text all), ltb-true _ _ few))
 
 pub decimal_is : {E : Type 0} (text : List ℕ) (r : Result ℕ E) → is_bare_text text ≡ true → ParsesUnsigned 16 10 text r → result_ok r ≡ decimal_in text
 decimal_is text r is parses =
     let b : Bare text = bare text is in
     let same : without_leading_plus text ≡ text = ap (λ (k : Bool). drop (cond k 1 0) text) b.unsigned in
-    let found = parsed text r b.some (subst (λ (w : List ℕ). OkIff r (IsNumeral 10 w × (digits_value 10 w < 65536)) (digits_value 10 w)) same parses) in
+    let found = parsed text r b.some (subst (λ (w : List ℕ). OkIff r (IsNumeral 10 w × (digits_value 10 w < 2 ^ 16)) (digits_value 10 w)) same parses) in
     rw is found

@@ -1,5 +1,5 @@
 -- Numbers among the words (this project's own).
-use Rattle.std.specs.Prelude.{ℕ, ◌-◌, ◌==◌, ◌&&◌, ◌||◌, nat_lt, not, Bool, List, ◌++◌, length, drop, replicate, slice_index, Option, Some, None, Result, Ok, Err, if◌then◌else◌}
+use Rattle.std.specs.Prelude.{ℕ, ◌-◌, ◌^◌, ◌==◌, ◌&&◌, ◌||◌, nat_lt, not, Bool, List, ◌++◌, length, drop, replicate, slice_index, Option, Some, None, Result, Ok, Err, if◌then◌else◌}
 use Rattle.std.specs.List.{list_all}
 use Rattle.std.specs.Int.{w64, from_be_bytes}
 use Rattle.std.specs.Str.Parse.{digits_value}
@@ -32,4 +32,4 @@ is_bare_text text =
 -- a number below 65,536, by its decimal digits alone
 abbrev pub decimal_in : List ℕ → Option ℕ
 decimal_in text =
-    if is_bare_text text && (list_all is_decimal_digit text && nat_lt (digits_value 10 text) 65536) then Some (digits_value 10 text) else None
+    if is_bare_text text && (list_all is_decimal_digit text && nat_lt (digits_value 10 text) (2 ^ 16)) then Some (digits_value 10 text) else None

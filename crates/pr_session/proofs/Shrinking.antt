@@ -6,6 +6,7 @@ use Rattle.pr_words.specs.declared.nexus.Side.TheVariants.{Target}
 use Rattle.pr_words.specs.declared.task.Way.{Way}
 use Rattle.pr_words.specs.declared.task.Way.TheVariants as ways
 use Rattle.pr_words.specs.Fields.{number32_at}
+use Rattle.pr_words.specs.declared.limits.TheConstants.{DATA}
 use Rattle.pr_grammar.specs.Frames.{Frame, Front, Lacking, Broken, Whole, front}
 use Rattle.pr_grammar.specs.Bodies.{login_nexus, login_version, command_cdb, command_data}
 use Rattle.pr_grammar.proofs.Spellings.{found}
@@ -152,20 +153,20 @@ frame_less who l m Fresh bytes reply place (Whole f rest) es is awaits some make
 frame_less who l m (In n) bytes reply place (Whole f rest) es is awaits some makes = in_less who l m (eqb f.kind 2) (eqb f.kind 3) n f rest bytes reply es place (rest_shorter bytes f rest is) makes
 
 -- how much is left of a task, at the most
-left_most : {M D : Type 0} {gm : media.Ghosts M} {gd : disks.Ghosts D} (p : Phase) (who : ℕ) (c : Core M D gm gd) → Agrees p who c → left_of p ≤ 524289
+left_most : {M D : Type 0} {gm : media.Ghosts M} {gd : disks.Ghosts D} (p : Phase) (who : ℕ) (c : Core M D gm gd) → Agrees p who c → left_of p ≤ DATA + 1
 left_most Fresh who c agrees = omega arith
 left_most (In n) who c agrees = omega arith
 left_most Dead who c agrees = omega arith
 left_most (Busy n j) who c agrees = by j.way agrees.come
   where
-    by : (way : Way) → HasCome way agrees.progress (length j.bytes) → left_by way (length j.bytes) ≤ 524289
+    by : (way : Way) → HasCome way agrees.progress (length j.bytes) → left_by way (length j.bytes) ≤ DATA + 1
     by ways.Read come = omega arith
     by ways.Write come = omega (arith, come, agrees.few)
 
-fewer_bytes : (a b x y : ℕ) → a < b → x ≤ 524289 → a * 524290 + x < b * 524290 + y
+fewer_bytes : (a b x y : ℕ) → a < b → x ≤ DATA + 1 → a * (DATA + 2) + x < b * (DATA + 2) + y
 fewer_bytes a b x y less bound = omega (arith, less, bound)
 
-less_task : (a b x y : ℕ) → a ≤ b → x < y → a * 524290 + x < b * 524290 + y
+less_task : (a b x y : ℕ) → a ≤ b → x < y → a * (DATA + 2) + x < b * (DATA + 2) + y
 less_task a b x y most less = omega (arith, most, less)
 
 -- a turn that does something leaves less to do

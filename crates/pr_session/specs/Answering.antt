@@ -5,6 +5,7 @@ use Rattle.pr_model.specs.Lanes.{Lane}
 use Rattle.pr_model.specs.Sessions.{AreTurns}
 use Rattle.pr_io.specs.declared.outside.Medium as media
 use Rattle.pr_io.specs.declared.outside.Disk as disks
+use Rattle.pr_words.specs.declared.limits.TheConstants.{DATA}
 use Rattle.pr_core.specs.declared.target.Core.{Core}
 use Rattle.pr_core.specs.View.{Extends}
 use Rattle.pr_core.specs.Shared.{ArePowered}
@@ -14,7 +15,7 @@ use Rattle.pr_session.specs.Driving.{left_of}
 
 -- what a lane has yet to do: its bytes, each of which counts more than the longest task, and the rest of its task
 abbrev pub work_left : Lane → ℕ
-work_left l = length l.bytes * 524290 + left_of l.phase
+work_left l = length l.bytes * (DATA + 2) + left_of l.phase
 
 abbrev pub HasLessLeft : Lane → Lane → Type 0
 HasLessLeft l m = work_left m < work_left l
