@@ -1,7 +1,7 @@
 -- A connection that goes on, call by call.
-use Rattle.std.proofs.Common.{◌≡◌, ◌≤◌, ◌<◌, ℕ, ◌+◌, ◌-◌, Bool, true, false, ◌==◌, List, ◌++◌, [], length, take, drop, Option, Some, None, refl, sym, ap, ◌∙◌, append_assoc, arith, subst}
+use Rattle.std.proofs.Common.{◌≡◌, ◌≤◌, ◌<◌, ℕ, ◌+◌, ◌-◌, true, List, ◌++◌, [], length, take, drop, Option, Some, None, refl, sym, ap, ◌∙◌, append_assoc, arith, subst}
 use Rattle.std.specs.Prelude.{Result, Ok, Err, OnOk, OnErr}
-use Rattle.std.proofs.lemmas.Bool.{eqb-true, eq-eqb, ne_eqb}
+use Rattle.std.proofs.lemmas.Bool.{eq-eqb, ne_eqb}
 use Rattle.std.proofs.lemmas.List.{append-nil}
 use borrow.Rule.Slice.PartMut.{put_mid}
 use Rattle.pr_io.specs.declared.outside.Failed.{Failed}
@@ -40,18 +40,11 @@ goes_by a b c d s h is same goes =
     (ap (λ (t : Talk). t.earlier) same, subst (λ (x : Option Connection). CurrentGoes x b.current s h) (sym is) (subst (λ (y : Option Connection). CurrentGoes (Some c) y s h) (sym current) goes))
 
 -- bytes were received, or none
-received_in : (c : Connection) (n room : ℕ) (buf : List ℕ) (b e : Bool) → (n == 0) ≡ b → (room == 0) ≡ e → CurrentGoes (Some c) (Some (received_on c n room buf)) [] (take n buf)
-received_in c n room buf true false is empty =
-    let none : n ≡ 0 = eqb-true n 0 is in
-    rw (is, empty) (refl, sym (append-nil c.sent), sym (append-nil c.received) ∙ ap (λ (k : ℕ). c.received ++ take k buf) (sym none))
-received_in c n room buf true true is empty = rw (is, empty) (refl, sym (append-nil c.sent), refl)
-received_in c n room buf false e is empty = rw is (refl, sym (append-nil c.sent), refl)
-
 pub received : (a b : Option Talk) (n : ℕ) (buf : List ℕ) → Receives a b (Ok n) buf → Goes a b [] (take n buf)
 received None b n buf p = p
 received (Some a) None n buf p = absurd p
 received (Some a) (Some b) n buf p =
-    goes_by a b p.0 (received_on p.0 n (length buf) buf) [] (take n buf) p.1 p.2 (received_in p.0 n (length buf) buf (n == 0) (length buf == 0) refl refl)
+    goes_by a b p.0 (received_on p.0 n (length buf) buf) [] (take n buf) p.1 p.2 (refl, sym (append-nil p.0.sent), refl)
 
 ended_in : (c : Connection) (n room : ℕ) (buf : List ℕ) → n ≡ 0 → 0 < room → (received_on c n room buf).ended ≡ true
 ended_in c n room buf none some = rw (eq-eqb n 0 none, ne_eqb room 0 (λ e. absurd (omega (arith, e, some)))) refl

@@ -1,11 +1,11 @@
 -- Devices and their lines that stay as they are.
-use Rattle.std.proofs.Common.{◌≡◌, ℕ, Bool, true, false, ◌==◌, List, [], ◌∷◌, ◌++◌, refl, sym, ap, ◌∙◌, subst, Some, None, if◌then◌else◌}
+use Rattle.std.proofs.Common.{◌≡◌, ℕ, Bool, true, false, ◌==◌, List, refl, sym, ap, ◌∙◌, subst, Some, None, if◌then◌else◌}
 use Rattle.std.specs.Prelude.{Option}
 use Rattle.pr_io.specs.declared.recorded.Recorded.{Recorded}
 use Rattle.pr_io.specs.Lines.{Exchange, Line, nothing_said}
-use Rattle.pr_io.specs.Talks.{Connection, Continues, connection, sent_on}
-use Rattle.pr_io.specs.Recordings.{line_of, last_of, exchange_of, told_of, told_current, talk_of, IsLater}
-use Rattle.pr_io.specs.Devices.{AllStand, AllCome, AllGoOn, DeviceStands, DeviceComes}
+use Rattle.pr_io.specs.Talks.{Connection, Continues, connection}
+use Rattle.pr_io.specs.Recordings.{line_of, exchange_of, told_of, told_current, talk_of, IsLater}
+use Rattle.pr_io.specs.Devices.{AllGoOn, DeviceStands, DeviceComes}
 use Rattle.pr_io.proofs.Settings.{stand_alike, come_alike}
 use Rattle.pr_io.proofs.LineLaws.{go_on}
 
@@ -22,7 +22,7 @@ lined earlier j device x = record { past = (line_of earlier None j).past; last =
 pub line_kept : (earlier : List Recorded) (r s : Recorded) → IsLater (λ c. c) r s → (j : ℕ) → line_of earlier (Some s) j ≡ line_of earlier (Some r) j
 line_kept earlier r s later j =
     ap (λ (n : ℕ). lined earlier j n (exchange_of s)) later.0
-    ∙ ap (λ (c : Connection). lined earlier j r.device (record { heard = c.sent; said = c.received })) later.1
+    ∙ ap (λ (c : Connection). lined earlier j r.device (record { heard = c.sent; said = c.received; quiet = c.ended })) later.1
 
 nothing_either : (b : Bool) → (if b then nothing_said else nothing_said) ≡ nothing_said
 nothing_either true = refl
@@ -30,7 +30,7 @@ nothing_either false = refl
 
 pub line_begun : (earlier : List Recorded) (r : Recorded) (address : List ℕ) → told_of r ≡ connection address → (j : ℕ) → line_of earlier (Some r) j ≡ line_of earlier None j
 line_begun earlier r address told j =
-    ap (λ (c : Connection). lined earlier j r.device (record { heard = c.sent; said = c.received })) told
+    ap (λ (c : Connection). lined earlier j r.device (record { heard = c.sent; said = c.received; quiet = c.ended })) told
     ∙ ap (λ (x : Exchange). record { past = (line_of earlier None j).past; last = x }) (nothing_either (r.device == j))
 
 -- the connection that stands goes on

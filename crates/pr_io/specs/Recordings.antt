@@ -1,5 +1,5 @@
 -- The connections that a wire in memory has recorded (this project's own).
-use Rattle.std.specs.Prelude.{◌≡◌, ℕ, ◌==◌, List, [], Option, Some, None, map, if◌then◌else◌}
+use Rattle.std.specs.Prelude.{◌≡◌, ℕ, ◌==◌, List, Option, Some, None, map, if◌then◌else◌}
 use Rattle.std.specs.List.{filter}
 use Rattle.std.specs.String.{string_bytes}
 use Rattle.pr_io.specs.declared.recorded.Recorded.{Recorded}
@@ -17,9 +17,9 @@ told_current (Some r) = Some (told_of r)
 abbrev pub talk_of : List Recorded → Option Recorded → Talk
 talk_of earlier current = record { earlier = map told_of earlier; current = told_current current }
 
--- what the device heard, and what it said (this project's own)
+-- what the device heard, what it said, and whether it had nothing more to say (this project's own)
 abbrev pub exchange_of : Recorded → Exchange
-exchange_of r = record { heard = (told_of r).sent; said = (told_of r).received }
+exchange_of r = record { heard = (told_of r).sent; said = (told_of r).received; quiet = (told_of r).ended }
 
 abbrev pub last_of : ℕ → Option Recorded → Exchange
 last_of i None = nothing_said

@@ -1,8 +1,9 @@
 -- What a client's wire tells of its connections (this project's own).
-use Rattle.std.specs.Prelude.{◌≡◌, ℕ, ◌==◌, ◌&&◌, not, Bool, true, false, List, [], ◌∷◌, ◌++◌, length, take, Option, Some, None, Result, Ok, Err, if◌then◌else◌}
+use Rattle.std.specs.Prelude.{◌≡◌, ℕ, ◌==◌, ◌&&◌, not, Bool, false, List, [], ◌∷◌, ◌++◌, length, take, Option, Some, None, Result, Ok, Err}
 use Rattle.pr_io.specs.declared.outside.Failed.{Failed}
 
--- with whom, what was sent and received so far, and whether the other side was found to have ended it (this project's own)
+-- with whom, what was sent and received so far, and whether the other side was found to have ended it: asked last, it gave nothing,
+-- and nothing was sent since (this project's own)
 pub record Connection : Type 0 where
   pub address : List ℕ
   pub sent : List ℕ
@@ -29,14 +30,14 @@ connections t = one_more t.earlier t.current
 abbrev pub dialled : Talk → List ℕ → Talk
 dialled t address = record { earlier = connections t; current = Some (connection address) }
 
+-- whoever is sent bytes may answer (this project's own)
 abbrev pub sent_on : Connection → List ℕ → Connection
-sent_on c bytes = record c { sent = c.sent ++ bytes }
+sent_on c bytes = record c { sent = c.sent ++ bytes; ended = false }
 
 -- so many bytes came into a buffer with this room: none, where there is any, tell that the other side has ended the
--- connection (this project's own)
+-- connection, and bytes that it hasn't (this project's own)
 abbrev pub received_on : Connection → ℕ → ℕ → List ℕ → Connection
-received_on c n room buf =
-    if n == 0 && not (room == 0) then record c { ended = true } else record c { received = c.received ++ take n buf }
+received_on c n room buf = record c { received = c.received ++ take n buf; ended = n == 0 && not (room == 0) }
 
 -- the connection that stands becomes another one (this project's own)
 abbrev pub Continues : Talk → Talk → (Connection → Connection) → Type 0

@@ -1,6 +1,6 @@
 //! Targets in memory, found by their addresses, each with a peer.
 
-ghost use Rattle.std.specs.Prelude.{◌≡◌, ◌≤◌, ◌<◌, ℕ, length, take, slice_get, IfSome};
+ghost use Rattle.std.specs.Prelude.{◌≡◌, ◌≤◌, ◌<◌, ℕ, length, slice_get, IfSome};
 ghost use Rattle.std.specs.String.{string_bytes};
 ghost use Rattle.std.specs.Bool.{OnTrue};
 ghost use Rattle.pr_io.specs.Devices.{AllStand, AllCome, DeviceStands, DeviceComes, changed_at};
@@ -33,10 +33,10 @@ pub(crate) fn say_at<P: Peer + Drop>(
     ensures count { result ≤ length buf.old }
     ensures stand { (lines : ℕ → Line) → AllStand (DeviceStands P.stands) devices.old.items lines →
         AllStand (DeviceStands P.stands) devices.new.items
-        (changed_at i (λ l. saying l (take result buf.new)) lines) }
+        (changed_at i (λ l. saying l result (length buf.new) buf.new) lines) }
     ensures come { (lines : ℕ → Line) → AllStand (DeviceStands P.stands) devices.old.items lines →
         AllCome (DeviceComes P.comes) devices.old.items lines
-        devices.new.items (changed_at i (λ l. saying l (take result buf.new)) lines) }
+        devices.new.items (changed_at i (λ l. saying l result (length buf.new) buf.new) lines) }
     ensures size { length devices.new.items ≡ length devices.old.items }
 {
     devices[i].1.say(buf)

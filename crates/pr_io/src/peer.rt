@@ -1,4 +1,4 @@
-ghost use Rattle.std.specs.Prelude.{◌≡◌, ◌≤◌, ℕ, length, take};
+ghost use Rattle.std.specs.Prelude.{◌≡◌, ◌≤◌, ℕ, length};
 ghost use Rattle.pr_io.specs.Lines.{Line, hearing, saying, hung_up};
 
 /// A target in memory, which a client's wire can reach. None of its calls takes memory or fails.
@@ -29,9 +29,9 @@ pub trait Peer {
     fn say(&mut self, buf: &mut [u8]) -> usize
         ensures count { result ≤ length buf.old }
         ensures stands { (l : Line) → stands self.old l →
-            stands self.new (saying l (take result buf.new)) }
+            stands self.new (saying l result (length buf.new) buf.new) }
         ensures comes { (l : Line) → stands self.old l →
-            comes self.old l self.new (saying l (take result buf.new)) };
+            comes self.old l self.new (saying l result (length buf.new) buf.new) };
 
     /// The last connection is given up, and a new one begins.
     fn hang_up(&mut self)

@@ -3,8 +3,8 @@ ghost use Rattle.std.specs.String.{string_bytes};
 
 use std::alloc::{AllocError, Global};
 
-/// A connection of a wire in memory: the place of its device, that one's address, and what was sent
-/// and received.
+/// A connection of a wire in memory: the place of its device, that one's address, what was sent and
+/// received, and whether the device, asked last, had nothing to say and was sent nothing since.
 #[derive(Drop)]
 pub(crate) struct Recorded {
     pub(crate) device: usize,

@@ -42,6 +42,7 @@ pub(crate) fn speak<P: Peer + Drop>(
         return Err(Refused::Starved);
     }
     hear_at(devices, recorded.device, bytes);
+    recorded.ended = false;
     Ok(())
 }
 
@@ -70,7 +71,7 @@ pub(crate) fn listen<P: Peer + Drop>(
     if recorded.received.extend_from_slice(&buf[..n]).is_err() {
         unreachable!();
     }
-    recorded.ended = recorded.ended || (n == 0 && !buf.is_empty());
+    recorded.ended = n == 0 && !buf.is_empty();
     Ok(n)
 }
 

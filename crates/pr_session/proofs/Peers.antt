@@ -1,5 +1,6 @@
 -- What a peer has heard and said, call by call.
-use Rattle.std.proofs.Common.{◌≡◌, ◌≤◌, ◌<◌, ◌-◌, ◌^◌, ℕ, zero, suc, min, List, [], ◌∷◌, ◌++◌, length, take, drop, refl, sym, ap, ◌∙◌, subst, append_assoc, arith}
+use Rattle.std.proofs.Common.{◌≡◌, ◌≤◌, ◌<◌, ◌-◌, ◌^◌, ◌==◌, ◌&&◌, not, ℕ, zero, suc, Bool, true, false, min, List, [], ◌∷◌, ◌++◌, length, take, drop, refl, sym, ap, ◌∙◌, subst, append_assoc, arith}
+use Rattle.std.proofs.lemmas.Bool.{false≢true, eqb-true, eqb-false, and_parts}
 use Rattle.std.proofs.lemmas.List.{append-nil, take-append-drop, take_all}
 use Rattle.pr_model.specs.Entries.{History}
 use Rattle.pr_model.specs.Histories.{failures_in}
@@ -50,10 +51,10 @@ arrived_phase l bytes = by l.phase refl
     by Dead is = refl
 
 -- one more connection was hung up
-asked_more : (xs : List Exchange) (x : Exchange) (es first : History) (lost : List ℕ) → AskedInTurn xs es → IsCutShort 0 x.heard first (x.said ++ lost) → AskedInTurn (xs ++ x ∷ []) (es ++ first)
-asked_more [] x es first lost none cut = (first, [], lost, cut, refl, ap (λ (h : History). h ++ first) none ∙ sym (append-nil first))
-asked_more (y ∷ xs) x es first lost (one, rest, missed, was, others, all) cut =
-    (one, rest ++ first, missed, was, asked_more xs x rest first lost others cut, ap (λ (h : History). h ++ first) all ∙ append_assoc one rest first)
+asked_more : (xs : List Exchange) (x : Exchange) (es first : History) (lost : List ℕ) → AskedInTurn xs es → IsCutShort 0 x.heard first (x.said ++ lost) → (x.quiet ≡ true → lost ≡ []) → AskedInTurn (xs ++ x ∷ []) (es ++ first)
+asked_more [] x es first lost none cut quiet = (first, [], lost, cut, quiet, refl, ap (λ (h : History). h ++ first) none ∙ sym (append-nil first))
+asked_more (y ∷ xs) x es first lost (one, rest, missed, was, none, others, all) cut quiet =
+    (one, rest ++ first, missed, was, none, asked_more xs x rest first lost others cut quiet, ap (λ (h : History). h ++ first) all ∙ append_assoc one rest first)
 
 -- a count of faults doesn't fall
 not_fallen : (k count : ℕ) → min count (2 ^ 64 - 1) ≤ faults_after k count
@@ -103,7 +104,7 @@ module _ {M D : Type 0} {gm : media.Ghosts M} {gd : disks.Ghosts D} where
   -- a new one
   pub made_none : (p : LanePeer M D gm gd) → HasTurned p.session (turned fresh []) → Stands p.core [] → HasMade p new_line []
   made_none p new stands =
-      record { earlier = []; asked = []; all = refl; past = refl; asks = record { turns = 0; taken = (refl, new.reply, new.lane) }; stands = stands }
+      record { earlier = []; asked = []; all = refl; past = refl; asks = record { turns = 0; taken = (refl, new.reply, new.lane) }; quiet = λ e. absurd (false≢true e); stands = stands }
 
   -- bytes were heard
   made_heard : (p q : LanePeer M D gm gd) (l : Line) (bytes : List ℕ) (h : History) → q.core ≡ p.core → lane_of q.session ≡ arrived (lane_of p.session) bytes → reply_of q.session ≡ reply_of p.session → HasMade p l h → HasMade q (hearing l bytes) (h ++ [])
@@ -118,6 +119,7 @@ module _ {M D : Type 0} {gm : media.Ghosts M} {gd : disks.Ghosts D} where
             subst (λ (x : Lane). AsksFor 0 heard made.asked (l.last.said ++ reply_of q.session) x) (sym lane)
             (subst (λ (w : List ℕ). AsksFor 0 heard made.asked (l.last.said ++ w) (arrived (lane_of p.session) bytes)) (sym reply)
             (asks_grow 0 l.last.heard bytes (l.last.said ++ reply_of p.session) made.asked (lane_of p.session) made.asks));
+        quiet = λ e. absurd (false≢true e);
         stands = subst (λ (c : Core M D gm gd). Stands c (h ++ [])) (sym core) (subst (Stands p.core) (sym (append-nil h)) made.stands);
       }
 
@@ -130,12 +132,48 @@ module _ {M D : Type 0} {gm : media.Ghosts M} {gd : disks.Ghosts D} where
   pub heard_comes : (p q : LanePeer M D gm gd) (l : Line) (bytes : List ℕ) → q.core ≡ p.core → lane_of q.session ≡ arrived (lane_of p.session) bytes → reply_of q.session ≡ reply_of p.session → Comes p l q (hearing l bytes)
   heard_comes p q l bytes core lane reply = comes_by p q l (hearing l bytes) [] (same_extends p.core q.core core) (λ h made. made_heard p q l bytes h core lane reply made)
 
+  -- so much of the reply that waited was said, which is all of it or fills the buffer; where none waited, no turn was left
+  abbrev pub SaysSome : Session → LanePeer M D gm gd → ℕ → ℕ → List ℕ → Type 0
+  SaysSome s q n size buf = record {
+    bytes : take n buf ≡ take n (reply_of s);
+    left : reply_of q.session ≡ drop n (reply_of s);
+    lane : lane_of q.session ≡ lane_of s;
+    count : n ≡ min (length (reply_of s)) size;
+    rests : reply_of s ≡ [] → turn (lane_of s) ≡ Idle;
+  }
+
+  -- nothing was said into a buffer with room
+  silent : (s : Session) (q : LanePeer M D gm gd) (n size : ℕ) (buf : List ℕ) → SaysSome s q n size buf → n ≡ 0 → 0 < size → (reply_of q.session ≡ []) × (turn (lane_of q.session) ≡ Idle)
+  silent s q n size buf some zero_is room =
+      let none : reply_of s ≡ [] = empty (reply_of s) (no_more (length (reply_of s)) size n some.count zero_is room) in
+      (some.left ∙ ap (λ (k : ℕ). drop k (reply_of s)) zero_is ∙ none, ap turn some.lane ∙ some.rests none)
+    where
+      no_more : (a b n : ℕ) → n ≡ min a b → n ≡ 0 → 0 < b → a ≡ 0
+      no_more a b n is none some = omega (arith, is, none, some)
+
+      empty : (xs : List ℕ) → length xs ≡ 0 → xs ≡ []
+      empty [] is = refl
+      empty (x ∷ xs) is = absurd (omega (arith, is))
+
+  is_quiet : (s : Session) (q : LanePeer M D gm gd) (n size : ℕ) (buf : List ℕ) → SaysSome s q n size buf → (n == 0 && not (size == 0)) ≡ true → (reply_of q.session ≡ []) × (turn (lane_of q.session) ≡ Idle)
+  is_quiet s q n size buf some quiet =
+      let parts = and_parts (n == 0) (not (size == 0)) quiet in
+      silent s q n size buf some (eqb-true n 0 parts.0) (above size (eqb-false size 0 (not_true (size == 0) parts.1)))
+    where
+      above : (k : ℕ) → (k ≡ 0 → ⊥) → 0 < k
+      above zero nonzero = absurd (nonzero refl)
+      above (suc k) nonzero = omega arith
+
+      not_true : (b : Bool) → not b ≡ true → b ≡ false
+      not_true true is = absurd (false≢true is)
+      not_true false is = refl
+
   -- turns were taken, and some of the reply that then waited was said
-  made_said : (p q : LanePeer M D gm gd) (l : Line) (s : Session) (n : ℕ) (bytes : List ℕ) (h : History) (t : TakesTurns 0 p.core p.session q.core s) → bytes ≡ take n (reply_of s) → reply_of q.session ≡ drop n (reply_of s) → lane_of q.session ≡ lane_of s
-      → HasMade p l h → HasMade q (saying l bytes) (h ++ t.entries)
-  made_said p q l s n bytes h t is left lane made =
+  made_said : (p q : LanePeer M D gm gd) (l : Line) (s : Session) (n size : ℕ) (buf : List ℕ) (h : History) (t : TakesTurns 0 p.core p.session q.core s) → SaysSome s q n size buf → HasMade p l h → HasMade q (saying l n size buf) (h ++ t.entries)
+  made_said p q l s n size buf h t some made =
+      let bytes : List ℕ = take n buf in
       let words : (l.last.said ++ reply_of p.session) ++ t.replies ≡ (l.last.said ++ bytes) ++ reply_of q.session =
-      append_assoc l.last.said (reply_of p.session) t.replies ∙ ap (λ (w : List ℕ). l.last.said ++ w) (sym t.said ∙ sym (take-append-drop n (reply_of s)) ∙ ap (λ (w : List ℕ). w ++ drop n (reply_of s)) (sym is) ∙ ap (λ (w : List ℕ). bytes ++ w) (sym left))
+      append_assoc l.last.said (reply_of p.session) t.replies ∙ ap (λ (w : List ℕ). l.last.said ++ w) (sym t.said ∙ sym (take-append-drop n (reply_of s)) ∙ ap (λ (w : List ℕ). w ++ drop n (reply_of s)) (sym some.bytes) ∙ ap (λ (w : List ℕ). bytes ++ w) (sym some.left))
       ∙ sym (append_assoc l.last.said bytes (reply_of q.session)) in
       record {
         earlier = made.earlier;
@@ -143,25 +181,22 @@ module _ {M D : Type 0} {gm : media.Ghosts M} {gd : disks.Ghosts D} where
         all = ap (λ (x : History). x ++ t.entries) made.all ∙ append_assoc made.earlier made.asked t.entries;
         past = made.past;
         asks =
-            subst (λ (x : Lane). AsksFor 0 l.last.heard (made.asked ++ t.entries) ((l.last.said ++ bytes) ++ reply_of q.session) x) (sym lane)
+            subst (λ (x : Lane). AsksFor 0 l.last.heard (made.asked ++ t.entries) ((l.last.said ++ bytes) ++ reply_of q.session) x) (sym some.lane)
             (subst (λ (w : List ℕ). AsksFor 0 l.last.heard (made.asked ++ t.entries) w (lane_of s)) words
             (asks_more t.turns 0 l.last.heard (l.last.said ++ reply_of p.session) t.replies made.asked t.entries (lane_of p.session) (lane_of s) made.asks t.taken));
+        quiet = is_quiet s q n size buf some;
         stands = extends_stands p.core q.core h t.entries t.extends t.powered made.stands;
       }
 
-  pub said_stands : (p q : LanePeer M D gm gd) (l : Line) (s : Session) (n : ℕ) (bytes : List ℕ) → TakesTurns 0 p.core p.session q.core s → bytes ≡ take n (reply_of s) → reply_of q.session ≡ drop n (reply_of s) → lane_of q.session ≡ lane_of s
-      → (h : History) × HasMade p l h → (h : History) × HasMade q (saying l bytes) h
-  said_stands p q l s n bytes t is left lane was = (was.0 ++ t.entries, made_said p q l s n bytes was.0 t is left lane was.1)
+  pub said_stands : (p q : LanePeer M D gm gd) (l : Line) (s : Session) (n size : ℕ) (buf : List ℕ) → TakesTurns 0 p.core p.session q.core s → SaysSome s q n size buf → (h : History) × HasMade p l h → (h : History) × HasMade q (saying l n size buf) h
+  said_stands p q l s n size buf t some was = (was.0 ++ t.entries, made_said p q l s n size buf was.0 t some was.1)
 
-  pub said_comes : (p q : LanePeer M D gm gd) (l : Line) (s : Session) (n : ℕ) (bytes : List ℕ) → TakesTurns 0 p.core p.session q.core s → bytes ≡ take n (reply_of s) → reply_of q.session ≡ drop n (reply_of s) → lane_of q.session ≡ lane_of s → Comes p l q (saying l bytes)
-  said_comes p q l s n bytes t is left lane = comes_by p q l (saying l bytes) t.entries t.extends (λ h made. made_said p q l s n bytes h t is left lane made)
+  pub said_comes : (p q : LanePeer M D gm gd) (l : Line) (s : Session) (n size : ℕ) (buf : List ℕ) → TakesTurns 0 p.core p.session q.core s → SaysSome s q n size buf → Comes p l q (saying l n size buf)
+  said_comes p q l s n size buf t some = comes_by p q l (saying l n size buf) t.entries t.extends (λ h made. made_said p q l s n size buf h t some made)
 
-  -- nothing was said into a buffer with room
-  pub answered : (q : LanePeer M D gm gd) (l : Line) (s : Session) (n size : ℕ) (h : History) → n ≡ min (length (reply_of s)) size → n ≡ 0 → 0 < size → (reply_of s ≡ [] → turn (lane_of s) ≡ Idle) → reply_of q.session ≡ drop n (reply_of s) → lane_of q.session ≡ lane_of s
-      → HasMade q l h → IsAnswered l h
-  answered q l s n size h count zero_is some rests left lane made =
-      let none : reply_of s ≡ [] = empty (reply_of s) (no_more (length (reply_of s)) size n count zero_is some) in
-      let silent : reply_of q.session ≡ [] = left ∙ ap (λ (k : ℕ). drop k (reply_of s)) zero_is ∙ none in
+  -- no reply waits, and no turn is left: all that was heard was answered
+  all_answered : (q : LanePeer M D gm gd) (l : Line) (h : History) → (reply_of q.session ≡ []) × (turn (lane_of q.session) ≡ Idle) → HasMade q l h → IsAnswered l h
+  all_answered q l h (silent, idle) made =
       record {
         earlier = made.earlier;
         asked = made.asked;
@@ -170,16 +205,15 @@ module _ {M D : Type 0} {gm : media.Ghosts M} {gd : disks.Ghosts D} where
         last = record {
           last = lane_of q.session;
           asks = subst (λ (w : List ℕ). AsksFor 0 l.last.heard made.asked w (lane_of q.session)) (nothing_waits l.last.said (reply_of q.session) silent) made.asks;
-          idle = ap turn lane ∙ rests none;
+          idle = idle;
         };
       }
-    where
-      no_more : (a b n : ℕ) → n ≡ min a b → n ≡ 0 → 0 < b → a ≡ 0
-      no_more a b n is none some = omega (arith, is, none, some)
 
-      empty : (xs : List ℕ) → length xs ≡ 0 → xs ≡ []
-      empty [] is = refl
-      empty (x ∷ xs) is = absurd (omega (arith, is))
+  pub quiet_answered : (q : LanePeer M D gm gd) (l : Line) (h : History) → HasMade q l h → l.last.quiet ≡ true → IsAnswered l h
+  quiet_answered q l h made quiet = all_answered q l h (made.quiet quiet) made
+
+  pub answered : (q : LanePeer M D gm gd) (l : Line) (s : Session) (n size : ℕ) (buf : List ℕ) (h : History) → SaysSome s q n size buf → n ≡ 0 → 0 < size → HasMade q l h → IsAnswered l h
+  answered q l s n size buf h some none room made = all_answered q l h (silent s q n size buf some none room) made
 
   -- the connection was hung up
   made_hung : (p q : LanePeer M D gm gd) (l : Line) (h : History) → Extends p.core q.core (closing 0 (lane_of p.session).phase) → HasTurned q.session (turned fresh []) → HasMade p l h → HasMade q (hung_up l) (h ++ closing 0 (lane_of p.session).phase)
@@ -191,8 +225,9 @@ module _ {M D : Type 0} {gm : media.Ghosts M} {gd : disks.Ghosts D} where
         all = sym (append-nil (h ++ ends));
         past =
             subst (AskedInTurn (l.past ++ l.last ∷ [])) (sym (append_assoc made.earlier made.asked ends) ∙ ap (λ (x : History). x ++ ends) (sym made.all))
-            (asked_more l.past l.last made.earlier (made.asked ++ ends) (reply_of p.session) made.past (record { asked = made.asked; last = lane_of p.session; asks = made.asks; ends = refl }));
+            (asked_more l.past l.last made.earlier (made.asked ++ ends) (reply_of p.session) made.past (record { asked = made.asked; last = lane_of p.session; asks = made.asks; ends = refl }) (λ e. (made.quiet e).0));
         asks = record { turns = 0; taken = (refl, new.reply, new.lane) };
+        quiet = λ e. absurd (false≢true e);
         stands = extends_stands p.core q.core h ends extends (powered_closing 0 (lane_of p.session).phase) made.stands;
       }
 

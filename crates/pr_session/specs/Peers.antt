@@ -1,10 +1,10 @@
 -- A peer that is a session with a target of its own: what it has heard and said, and the entries that its target has made (this project's own).
-use Rattle.std.proofs.Common.{◌≡◌, ◌≤◌, ◌-◌, ◌^◌, ℕ, min, List, [], ◌∷◌, ◌++◌, length, refl, sym, ap, ◌∙◌, subst, append_assoc, arith}
+use Rattle.std.proofs.Common.{◌≡◌, ◌≤◌, ◌-◌, ◌^◌, ℕ, true, min, List, [], ◌∷◌, ◌++◌, length, refl, sym, ap, ◌∙◌, subst, append_assoc, arith}
 use Rattle.std.proofs.lemmas.List.{append-nil}
 use Rattle.pr_words.specs.declared.limits.TheConstants.{HELD}
 use Rattle.pr_model.specs.Entries.{History}
 use Rattle.pr_model.specs.Histories.{failures_in}
-use Rattle.pr_model.specs.Lanes.{Lane, Phase, Dead}
+use Rattle.pr_model.specs.Lanes.{Lane, Phase, Dead, Idle, turn}
 use Rattle.pr_model.specs.Sessions.{AsksFor, IsAsked, IsCutShort}
 use Rattle.pr_io.specs.Lines.{Exchange, Line}
 use Rattle.pr_io.specs.declared.outside.Medium as media
@@ -28,11 +28,11 @@ room_at _ held = HELD - length held
 abbrev pub room_of : Lane → ℕ
 room_of l = room_at l.phase l.bytes
 
--- connections that were hung up asked for these entries, one connection after another; of the replies of each so much was said, and the rest is lost
+-- connections that were hung up asked for these entries, one connection after another; of the replies of each so much was said, and the rest is lost, which is nothing where there was nothing more to say
 abbrev pub AskedInTurn : List Exchange → History → Type 0
 AskedInTurn [] h = h ≡ []
 AskedInTurn (x ∷ xs) h =
-    (first : History) × (rest : History) × (lost : List ℕ) × IsCutShort peer_number x.heard first (x.said ++ lost) × AskedInTurn xs rest × (h ≡ first ++ rest)
+    (first : History) × (rest : History) × (lost : List ℕ) × IsCutShort peer_number x.heard first (x.said ++ lost) × (x.quiet ≡ true → lost ≡ []) × AskedInTurn xs rest × (h ≡ first ++ rest)
 
 -- all that was heard was answered: the last connection asked for the last entries, and all replies to it were said
 pub record IsAnswered (l : Line) (h : History) : Type 0 where
@@ -43,13 +43,14 @@ pub record IsAnswered (l : Line) (h : History) : Type 0 where
   pub last : IsAsked peer_number l.last.heard asked l.last.said
 
 module _ {M D : Type 0} {gm : media.Ghosts M} {gd : disks.Ghosts D} where
-  -- the peer has heard and said this, and its target stands for these entries: those for which the connections asked that were hung up, and then those for which the last one has asked so far, whose replies were said but for the one that waits
+  -- the peer has heard and said this, and its target stands for these entries: those for which the connections asked that were hung up, and then those for which the last one has asked so far, whose replies were said but for the one that waits. Where there was nothing more to say, none waits, and all that was heard was looked at
   pub record HasMade (p : LanePeer M D gm gd) (l : Line) (h : History) : Type 0 where
     pub earlier : History
     pub asked : History
     pub all : h ≡ earlier ++ asked
     pub past : AskedInTurn l.past earlier
     pub asks : AsksFor peer_number l.last.heard asked (l.last.said ++ reply_of p.session) (lane_of p.session)
+    pub quiet : l.last.quiet ≡ true → (reply_of p.session ≡ []) × (turn (lane_of p.session) ≡ Idle)
     pub stands : Stands p.core h
 
   -- it has made entries that go on from these; since then its disk has failed once for each save that failed among the new ones

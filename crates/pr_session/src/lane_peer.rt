@@ -79,10 +79,10 @@ impl<M: Medium, D: Disk> Peer for LanePeer<M, D> {
     fn say(&mut self, buf: &mut [u8]) -> usize
         ensures count { result ≤ length buf.old }
         ensures stands { (l : Line) → ((h : History) × HasMade self.old l h)
-            → (h : History) × HasMade self.new (saying l (take result buf.new)) h }
+            → (h : History) × HasMade self.new (saying l result (length buf.new) buf.new) h }
         ensures comes { (l : Line) → ((h : History) × HasMade self.old l h)
-            → Comes self.old l self.new (saying l (take result buf.new)) }
-        ensures all { result ≡ 0 → 0 < length buf.old → (l : Line) (h : History)
+            → Comes self.old l self.new (saying l result (length buf.new) buf.new) }
+        ensures all { result ≡ 0 → 0 < length buf.new → (l : Line) (h : History)
             → HasMade self.new l h → IsAnswered l h }
     {
         take_turns(&mut self.session, &mut self.core);
@@ -133,7 +133,7 @@ fn take_turn<M: Medium, D: Disk>(session: &mut Session, core: &mut Core<M, D>) -
 
 /// Says as much of the reply as the buffer has room for, and how much that is.
 fn say_some(session: &mut Session, buf: &mut [u8]) -> usize
-    ensures count { result ≡ min (length (reply_of session.old)) (length buf.old) }
+    ensures count { result ≡ min (length (reply_of session.old)) (length buf.new) }
     ensures bytes { take result buf.new ≡ take result (reply_of session.old) }
     ensures reply { reply_of session.new ≡ drop result (reply_of session.old) }
     ensures keeps { IsKept session.old session.new }
