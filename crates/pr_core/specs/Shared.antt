@@ -1,7 +1,7 @@
 -- For which histories a target stands that threads share (this project's own). What its medium held when it was opened isn't known.
 use Rattle.std.specs.Prelude.{◌≡◌, ℕ, Bool, true, false, None, IsSome}
 use Rattle.std.specs.List.{AllByRecursion}
-use Rattle.pr_model.specs.Limits.{LIMIT}
+use Rattle.pr_words.specs.declared.limits.TheConstants.{LIMIT}
 use Rattle.pr_model.specs.Worlds.{Blocks, World, opened}
 use Rattle.pr_model.specs.Registrants.{IsWellFormed}
 use Rattle.pr_model.specs.Entries.{Act, Login, Command, Step, Logout, Power, Entry, History}
