@@ -1,5 +1,5 @@
 -- A disk that tells what a read gives goes on telling it.
-use Rattle.std.proofs.Common.{◌≡◌, ℕ, Bool, true, false, List, [], ◌∷◌, Option, Some, None, is_some, MatchBool, Result, refl, ap, ◌∙◌}
+use Rattle.std.proofs.Common.{◌≡◌, ℕ, Bool, true, false, List, [], ◌∷◌, Option, Some, None, is_some, MatchBool, Result, refl, ap}
 use Rattle.pr_io.specs.Images.{Image, Story, Moves}
 use Rattle.pr_io.specs.Spans.{Puts, Settles}
 use Rattle.pr_aptpl.specs.Gates.{Closes}

@@ -1,9 +1,9 @@
 -- The lines of devices, as a connection goes on.
-use Rattle.std.proofs.Common.{◌≡◌, ℕ, Bool, true, false, ◌==◌, List, [], ◌∷◌, ◌++◌, refl, sym, ap, ◌∙◌, subst, Some, None}
+use Rattle.std.proofs.Common.{◌≡◌, ℕ, Bool, true, false, ◌==◌, List, refl, sym, ap, ◌∙◌, Some, None}
 use Rattle.std.proofs.lemmas.Bool.{eq-eqb, eqb-true, eqb-false, ne_eqb}
 use Rattle.pr_io.specs.declared.recorded.Recorded.{Recorded}
-use Rattle.pr_io.specs.Lines.{Exchange, Line, nothing_said}
-use Rattle.pr_io.specs.Recordings.{line_of, last_of, exchange_of}
+use Rattle.pr_io.specs.Lines.{Exchange, Line}
+use Rattle.pr_io.specs.Recordings.{line_of, exchange_of}
 use Rattle.pr_io.specs.Devices.{AllStand, AllCome, AllGoOn, changed_at}
 use Rattle.pr_io.proofs.Settings.{stand_alike, come_to}
 

@@ -1,11 +1,11 @@
 -- One call more joins the record.
-use Rattle.std.proofs.Common.{◌≡◌, ◌⊎◌, inl, inr, ⊎_elim, ℕ, zero, suc, ◌+◌, ◌-◌, ◌<◌, ◌≤◌, nat_le, nat_lt, Bool, true, false, not, ◌&&◌, ◌||◌, if◌then◌else◌, List, [], ◌∷◌, ◌++◌, length, take, drop, slice_index, Vec, Some, Result, Ok, Err, OnOk, OnErr, IsErr, refl, sym, ◌∙◌, ap, subst, arith, length-append}
+use Rattle.std.proofs.Common.{◌≡◌, ◌⊎◌, inl, inr, ⊎_elim, ℕ, ◌+◌, ◌-◌, ◌<◌, ◌≤◌, nat_le, nat_lt, Bool, true, false, not, ◌&&◌, ◌||◌, if◌then◌else◌, List, [], ◌∷◌, ◌++◌, length, take, drop, slice_index, Vec, Some, Result, Ok, Err, OnOk, OnErr, IsErr, refl, sym, ◌∙◌, ap, subst, arith}
 use Rattle.std.proofs.Math.Path.{fun_ext}
 use Rattle.std.proofs.Math.Nat.{le_refl}
 use Rattle.std.specs.List.{list_any}
 use Rattle.std.proofs.lemmas.List.{take-append-le, drop-append-le, take_all, drop_all, length_push}
 use Rattle.std.proofs.lemmas.List.Folds.{list_any-append}
-use Rattle.std.proofs.lemmas.Bool.{false≢true, cases_Bool, or_parts, or_from, and_cases, and_left, and_right, and_parts, or_left, not_from_true, cases_lt, leb-true, ltb-true, le-leb, lt-ltb, both_ways, lt-leb, le-ltb, leb-false, ltb-false}
+use Rattle.std.proofs.lemmas.Bool.{false≢true, cases_Bool, or_parts, or_from, and_cases, and_left, and_right, and_parts, or_left, not_from_true, cases_lt, leb-true, ltb-true, lt-leb, le-ltb, leb-false, ltb-false}
 use Rattle.std.specs.declared.alloc.Global.{Global}
 use Rattle.pr_io.specs.Images.{Image, Story, Holds, Within, image_of, Stays, Wrote, Writes, Syncs, GoesOn, IsPending}
 use Rattle.pr_io.specs.DiskCalls.{is_sync, covers, is_pending, undone, before_all, IsLeft, MayLeave, recorded, since_before}

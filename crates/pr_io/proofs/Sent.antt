@@ -1,5 +1,5 @@
 -- What was put where a sink fails between two pieces, and facts under a result.
-use Rattle.std.proofs.Common.{ℕ, ◌<◌, List, ◌++◌, length, Option, Result, Ok, Err, sym, ap, ◌∙◌, append_assoc, arith}
+use Rattle.std.proofs.Common.{ℕ, List, ◌++◌, Option, Result, Ok, Err, sym, ap, ◌∙◌, append_assoc, arith}
 use Rattle.std.proofs.lemmas.List.{length-append}
 use Rattle.std.specs.Prelude.{OnErr, OnOk}
 use Rattle.pr_io.specs.Streams.{Put, PutSome}

@@ -1,8 +1,8 @@
 -- What a write leaves, and then a sync.
-use Rattle.std.proofs.Common.{◌≡◌, ◌⊎◌, inl, inr, ⊎_elim, ℕ, ◌+◌, ◌≤◌, List, length, Option, Some, None, Result, Ok, Err, OnOk, IsErr, refl, sym, ◌∙◌, subst, arith}
+use Rattle.std.proofs.Common.{◌≡◌, ◌⊎◌, inl, inr, ⊎_elim, ℕ, ◌≤◌, List, length, Option, Some, None, Result, Ok, Err, OnOk, IsErr, refl, sym, ◌∙◌, subst, arith}
 use Rattle.std.proofs.lemmas.Result.{MatchResult-at_ok, MatchResult-from_err}
 use Rattle.pr_io.specs.Images.{Image, Story, Within, Written, Wrote, Moves, Writes, Syncs}
-use Rattle.pr_io.specs.Spans.{Goes, Admits, Torn, Has, Puts, Settles}
+use Rattle.pr_io.specs.Spans.{Goes, Admits, Torn, Has, Settles}
 
 -- the law of a disk that an image since a moment is one since each before it
 abbrev pub Since : Story → Type 0

@@ -1,5 +1,5 @@
 -- Devices in memory, each with what it has heard and said (this project's own).
-use Rattle.std.specs.Prelude.{◌≡◌, ℕ, zero, suc, ◌==◌, List, [], ◌∷◌, if◌then◌else◌}
+use Rattle.std.specs.Prelude.{◌≡◌, ℕ, suc, ◌==◌, List, [], ◌∷◌, if◌then◌else◌}
 use Rattle.pr_io.specs.Lines.{Line}
 
 -- each device stands for the line of its place (this project's own)

@@ -6,7 +6,7 @@ use Rattle.std.proofs.Math.Nat.{le_refl, le_trans}
 use Rattle.pr_io.specs.Blocks.{disk_size}
 use Rattle.pr_io.specs.Images.{Image, Story, image_of}
 use Rattle.pr_io.specs.declared.disk_call.DiskCall.{DiskCall}
-use Rattle.pr_io.specs.declared.disk_call.DiskCall.TheVariants.{Other, Write, Sync}
+use Rattle.pr_io.specs.declared.disk_call.DiskCall.TheVariants.{Write, Sync}
 
 -- a sync that succeeded
 abbrev pub is_sync : DiskCall → Bool

@@ -1,20 +1,16 @@
 -- Requests and replies that are written are read back as the same values.
-use Rattle.std.proofs.Common.{◌≡◌, ℕ, ◌+◌, ◌-◌, ◌≤◌, ◌<◌, ◌^◌, ◌%◌, ◌==◌, false, true, List, [], ◌∷◌, ◌++◌, length, refl, sym, ap, ◌∙◌, arith, lit≤}
-use Rattle.std.specs.Prelude.{Option, Some, None, Result, Ok}
+use Rattle.std.proofs.Common.{◌≡◌, ℕ, ◌-◌, ◌<◌, ◌%◌, ◌==◌, List, [], ◌∷◌, ◌++◌, length, refl, ap, ◌∙◌, arith, lit≤}
+use Rattle.std.specs.Prelude.{Option, Some, None, Ok}
 use Rattle.std.proofs.Math.Nat.{mod-eq_of_lt}
 use Rattle.std.proofs.lemmas.Bool.{or_parts}
 use Rattle.std.proofs.lemmas.Nat.{from_be_bytes-to_be_bytes_4, from_be_bytes-to_be_bytes_8}
 use Rattle.pr_words.specs.declared.nexus.Side.TheVariants.{Target, Initiator}
 use Rattle.pr_words.specs.declared.code.Sense.{Sense}
 use Rattle.pr_words.specs.declared.code.Status.TheVariants as status
-use Rattle.pr_grammar.specs.Bodies.{command_reply, command_cdb, command_data, command_head, reject}
-use Rattle.pr_link.specs.declared.request.Request.{Request}
+use Rattle.pr_grammar.specs.Bodies.{command_reply, command_data, command_head, reject}
 use Rattle.pr_link.specs.declared.request.Request.TheVariants as request
-use Rattle.pr_link.specs.declared.reply.Reply.{Reply}
 use Rattle.pr_link.specs.declared.reply.Reply.TheVariants as reply
-use Rattle.pr_link.specs.Laws.{Keeps}
-use Rattle.pr_link.specs.Requests.{request_of, request_kind, request_body, data_out_of}
-use Rattle.pr_link.specs.Replies.{reply_of, reply_kind, reply_body, data_in_of, is_spoken_for}
+use Rattle.pr_link.specs.Replies.{reply_of}
 use Rattle.pr_link.specs.ValueLaws.{RequestsAreReadBack, RepliesAreReadBack, InformationFits}
 use Rattle.pr_link.proofs.Requests.{kept, login_back, command_back}
 use Rattle.pr_link.proofs.Replies.{reply_kept}

@@ -1,6 +1,5 @@
 -- What an initiator asks for, as a value and its spelling (this project's own).
 use Rattle.std.specs.Prelude.{ℕ, ◌==◌, List, [], ◌++◌, length, if◌then◌else◌}
-use Rattle.pr_words.specs.declared.nexus.Nexus.{Nexus}
 use Rattle.pr_grammar.specs.Bodies.{login_body, login_version, login_nexus, command_head, command_cdb, command_data}
 use Rattle.pr_grammar.specs.Frames.{Frame, frame}
 use Rattle.pr_link.specs.declared.request.Request.{Request}

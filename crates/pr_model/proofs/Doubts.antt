@@ -1,5 +1,5 @@
 -- Where nothing is in doubt and no save fails, nothing comes to be in doubt.
-use Rattle.std.proofs.Common.{◌≡◌, ◌⊎◌, ◌&&◌, inl, inr, ℕ, ◌+◌, ◌==◌, Bool, true, false, cond, List, [], ◌∷◌, Option, Some, None, refl, sym, ap, ◌∙◌, subst, take, arith}
+use Rattle.std.proofs.Common.{◌≡◌, ◌&&◌, inl, inr, ℕ, ◌==◌, Bool, true, false, cond, List, [], ◌∷◌, Option, Some, None, refl, sym, ap, subst, take, arith}
 use Rattle.pr_words.specs.declared.nexus.Nexus.{Nexus}
 use Rattle.pr_words.specs.declared.code.Code.{Code}
 use Rattle.pr_words.specs.declared.task.Way.{Way}
@@ -16,7 +16,7 @@ use Rattle.pr_model.specs.Tasks.{new_task}
 use Rattle.pr_model.specs.Entries as entries
 use Rattle.pr_model.specs.Entries.{Act, Out, Entry, History, Started}
 use Rattle.pr_model.specs.Commands.{Answer, answer, good, sense_data, by_verdict, hand_out, served, answered}
-use Rattle.pr_model.specs.Saving.{asks_to_save, restorable, settled, doubted, tells_failure}
+use Rattle.pr_model.specs.Saving.{asks_to_save, settled, doubted, tells_failure}
 use Rattle.pr_model.specs.Steps.{stepped_in}
 use Rattle.pr_model.specs.Histories.{login_code, logged_in, moved_by, moved, after, failures_by, failures_in}
 use Rattle.pr_model.specs.Stamps.{Bytes, Restores, RestoresKept, RestoresSome, KeepsSome, AreAcknowledged, AcknowledgedBy, AreStamps, AreStampsOfKept}

@@ -1,6 +1,6 @@
 -- Turns of a session, joined.
-use Rattle.std.proofs.Common.{◌≡◌, ℕ, zero, suc, List, [], ◌++◌, refl, sym, ap, ◌∙◌, subst, append_assoc}
-use Rattle.pr_model.specs.Entries.{History, Entry}
+use Rattle.std.proofs.Common.{ℕ, zero, suc, List, ◌++◌, sym, ap, ◌∙◌, subst, append_assoc}
+use Rattle.pr_model.specs.Entries.{History}
 use Rattle.pr_model.specs.Lanes.{Lane}
 use Rattle.pr_model.specs.Sessions.{AreTurns, TurnsJoin}
 

@@ -1,9 +1,8 @@
 -- Which histories are legal, and the world after each.
-use Rattle.std.specs.Prelude.{◌≡◌, ℕ, ◌+◌, ◌==◌, ◌&&◌, nat_lt, not, Bool, false, List, [], ◌∷◌, ◌++◌, length, Option, Some, None, is_some, if◌then◌else◌}
+use Rattle.std.specs.Prelude.{◌≡◌, ℕ, ◌+◌, ◌==◌, ◌&&◌, nat_lt, not, false, List, [], ◌∷◌, ◌++◌, length, Option, Some, None, is_some, if◌then◌else◌}
 use Rattle.pr_words.specs.declared.nexus.Nexus.{Nexus}
 use Rattle.pr_words.specs.declared.limits.TheConstants.{KNOWN}
 pub use Rattle.pr_grammar.specs.Standings.{is_port}
-use Rattle.pr_model.specs.Keeping.{Kept}
 use Rattle.pr_model.specs.Worlds.{Blocks, World, opened, set_at, is_known}
 use Rattle.pr_model.specs.Entries.{Act, Login, Command, Step, Logout, Power, Out, Login_code, Left, Restored, Fault, Entry, History}
 use Rattle.pr_model.specs.Commands.{answered}

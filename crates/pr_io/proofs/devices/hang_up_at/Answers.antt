@@ -1,4 +1,4 @@
-use Rattle.std.proofs.Common.{◌≡◌, ℕ, refl}
+use Rattle.std.proofs.Common.{ℕ, refl}
 use Rattle.pr_io.specs.Lines.{Line, hung_up}
 use Rattle.pr_io.specs.Devices.{DeviceStands, DeviceComes, changed_at}
 use Rattle.pr_io.proofs.Settings.{stand_set, come_set, at_place, elsewhere}

@@ -1,7 +1,6 @@
-use Rattle.std.proofs.Common.{◌≡◌, refl, sym, ap, ◌∙◌, None, Some, length}
+use Rattle.std.proofs.Common.{refl, ap, None, Some}
 use Rattle.pr_io.specs.Recordings.{line_of}
-use Rattle.pr_io.specs.Talks.{sent_on, received_on}
-use Rattle.pr_io.proofs.Remaining.{remains, line_kept, line_begun, continues, goes_on_to}
+use Rattle.pr_io.proofs.Remaining.{remains, line_begun, goes_on_to}
 use Rattle.pr_io.specs.Devices.{DeviceStands, DeviceComes}
 use Rattle.pr_io.proofs.mem_wire.MemWireWire.dial.Goals as goal
 

@@ -1,7 +1,7 @@
-use Rattle.std.proofs.Common.{◌≡◌, refl, sym, ap, ◌∙◌, None, Some, length}
+use Rattle.std.proofs.Common.{refl, sym, ap, ◌∙◌, Some}
 use Rattle.pr_io.specs.Recordings.{line_of}
-use Rattle.pr_io.specs.Talks.{sent_on, received_on}
-use Rattle.pr_io.proofs.Remaining.{remains, line_kept, line_begun, continues, goes_on_to}
+use Rattle.pr_io.specs.Talks.{sent_on}
+use Rattle.pr_io.proofs.Remaining.{remains, line_kept, continues}
 use Rattle.pr_io.proofs.mem_wire.MemWireWire.send.Goals as goal
 
 pub returns-then-next_fails-clause-comes : goal.returns-then-next_fails-clause-comes
