@@ -2,6 +2,11 @@ use Rattle.std.proofs.Common.{rules, ◌++◌, ◌∷◌, [], arith, length-appe
 use Rattle.pr_serve.proofs.Acceptings.{accepts-more, cause-since}
 use Rattle.pr_serve.proofs.accepting.accept_all.Goals as goal
 
+pub accept_one-requires-clause-stands : goal.accept_one-requires-clause-stands
+accept_one-requires-clause-stands g c κs within =
+    let i = c.loop-taken.invariant.4 in let r = c.requires.stands in
+    (r.0, r.1 ++ i.0, i.2.stands r.0 r.1 r.2 r.3)
+
 pub returns-in-Err-clause-took : goal.returns-in-Err-clause-took
 returns-in-Err-clause-took g c =
     let i = c.loop-taken.invariant.4 in (
