@@ -1,6 +1,6 @@
 -- Which words ask for what: `fence on|off|status --cluster TEXT --node N --name HEX`, then `--plug N` for off and status, then
 -- maybe `--aptpl`, then 1 to 64 addresses (this project's own).
-use Rattle.std.specs.Prelude.{ℕ, ◌==◌, ◌≤◌, ◌&&◌, nat_le, Bool, true, false, List, [], ◌∷◌, length, Option, Some, None, Result, Ok, Err, codes, if◌then◌else◌}
+use Rattle.std.specs.Prelude.{◌≡◌, ℕ, ◌==◌, ◌≤◌, ◌&&◌, nat_le, Bool, true, false, List, [], ◌∷◌, length, Option, Some, None, Result, Ok, Err, codes, if◌then◌else◌}
 use Rattle.std.specs.Str.{bytes_eq}
 use Rattle.pr_words.specs.declared.nexus.Key.{Key}
 use Rattle.pr_words.specs.declared.nexus.Nexus.{Nexus}
@@ -136,3 +136,15 @@ wanted_from (Some s) = wanted_doing s (task_in s.verb s.rest)
 -- what words ask for; where they are none of the above nothing, and nothing where a node would fence itself off
 unfoldable pub wanted_by : List Text → Result Wanted Refusal
 wanted_by words = wanted_from (start_in words)
+
+-- the words make no command
+abbrev pub MakeNoCommand : List Text → Type 0
+MakeNoCommand words = wanted_by words ≡ Err BadWords
+
+-- a node would fence itself off
+abbrev pub FenceItself : List Text → Type 0
+FenceItself words = wanted_by words ≡ Err SelfFence
+
+-- a victim's key is to be fenced off
+abbrev pub FenceOff : List Text → Wanted → Key → Type 0
+FenceOff words w victim = (wanted_by words ≡ Ok w) × (w.errand ≡ errand.Off victim)
