@@ -1,4 +1,4 @@
-"""What the examples over TCP share: a target that `serve` runs, the program's other words, and an initiator of the link.
+"""What runs over TCP share: a target that `serve` runs, the program's other words, and an initiator of the link.
 
 Every wait has an end, and the target is killed whatever comes.
 """
@@ -40,21 +40,28 @@ class Target:
             file.write(bytes(BLOCKS * BLOCK))
         self.process = None
         try:
-            with open(self.path("told"), "wb") as told:
-                self.process = subprocess.Popen(
-                    [built(), "serve", "127.0.0.1:0", self.path("registrations"), self.blocks, *self.words],
-                    stdin=subprocess.DEVNULL, stdout=subprocess.PIPE, stderr=told)
-            self.address = self.listening()
+            self.start("127.0.0.1:0")
         except BaseException:
             self.__exit__()
             raise
         return self
 
     def __exit__(self, *_):
+        self.kill()
+        self.folder.cleanup()
+
+    def start(self, address, stdout=subprocess.PIPE, **options):
+        with open(self.path("told"), "wb") as told:
+            self.process = subprocess.Popen(
+                [built(), "serve", address, self.path("registrations"), self.blocks, *self.words],
+                stdin=subprocess.DEVNULL, stdout=stdout, stderr=told, **options)
+        self.address = self.listening()
+
+    def kill(self):
         if self.process:
             self.process.kill()
             self.process.communicate()
-        self.folder.cleanup()
+            self.process = None
 
     def path(self, name):
         return os.path.join(self.folder.name, name)
