@@ -4,6 +4,7 @@
 
    load HOST:PORT SECONDS SESSIONS...
 
+   The environment's ROWS, where it is set, is a part of the names of the rows that are wanted.
    It logs in under 64 names, which all register before the keys are read and unregister at the end.
    The unit has at least 65,536 blocks (32 MiB); 4,096 are each session's own. */
 #include <arpa/inet.h>
@@ -265,6 +266,7 @@ int main(int count, char **words)
         fprintf(stderr, "usage: load HOST:PORT SECONDS SESSIONS...\n");
         return 2;
     }
+    const char *wanted = getenv("ROWS");
     for (uint32_t i = 0; i < NAMES; i++)
         begin(&sessions[i], i, words[1]);
     for (int word = 3; word < count; word++) {
@@ -272,6 +274,8 @@ int main(int count, char **words)
         if (number < 1 || number > 16)
             fail("1 to 16 sessions at once");
         for (size_t i = 0; i < sizeof rows / sizeof *rows; i++) {
+            if (wanted && !strstr(rows[i].name, wanted))
+                continue;
             for (int j = 0; rows[i].operation == RESERVE_IN && j < NAMES; j++)
                 if (registration(&sessions[j], key_of(&sessions[j]), 0))
                     fail("a registration is refused");
