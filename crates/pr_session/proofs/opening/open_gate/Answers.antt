@@ -22,4 +22,4 @@ returns-in-Ok-new-clause-right g c ground at =
     let made = c.in-Ok-new.ensures in
     right_seen c.in-Ok.core ground (ground_of c.in-Ok-new.made.1) (seen_of c.in-Ok-new.made.1) at made.ground
     (subst (Stands c.in-Ok.core) (sym made.lists.0) (opened_stands c.in-Ok.core (is_some (g.D.Disk.story c.args.disk).now)
-        (λ m tells count blocks told. o.stands m tells (count ∙ o.blocks) (subst (λ k. AreBlocksOf (g.M.Medium.contents k) m) o.over.0 blocks) told)))
+    (λ m tells count blocks told. o.stands m tells (count ∙ o.blocks) (subst (λ k. AreBlocksOf (g.M.Medium.contents k) m) o.over.0 blocks) told)))
