@@ -1,5 +1,5 @@
 -- Each step of a gate keeps its rule.
-use Rattle.std.proofs.Common.{◌≡◌, ◌≢◌, ◌⊎◌, ℕ, zero, suc, ◌+◌, ◌-◌, ◌%◌, ◌^◌, ◌<◌, ◌≤◌, Bool, true, false, eqb, ltb, cond, List, [], ◌∷◌, ◌++◌, length, get_or, set, sym, refl, ap, ◌∙◌, subst, arith, Option, Some, None, IfSome, IsSome, is_some, unwrap_or, MatchBool, ⊎_elim, inl, inr, le_refl, le-ltb, ltb-true, lt-ltb}
+use Rattle.std.proofs.Common.{Box, Global, ◌≡◌, ◌≢◌, ◌⊎◌, ℕ, zero, suc, ◌+◌, ◌-◌, ◌%◌, ◌^◌, ◌<◌, ◌≤◌, Bool, true, false, eqb, ltb, cond, List, [], ◌∷◌, ◌++◌, length, get_or, set, sym, refl, ap, ◌∙◌, subst, arith, Option, Some, None, IfSome, IsSome, is_some, unwrap_or, MatchBool, ⊎_elim, inl, inr, le_refl, le-ltb, ltb-true, lt-ltb}
 use mathlib.Core.Logic.{dite}
 use mathlib.Core.Option as maybe
 use mathlib.Core.Option.{some, none, some-injective, some-ne-none}
@@ -314,8 +314,8 @@ module _ {T E G : Type 0} (number : E → ℕ) (ground_of : T → G) (stands : T
   put_home (h ∷ []) y e = refl
   put_home (h ∷ k ∷ hs) y e = absurd (omega arith)
 
-  pub publishes_step : (slots id : ℕ) (me : M) (t n : ℕ) (x : T) (e : E) → slots ≡ 1 → me.0.stage ≡ Inside t → me.0.number ≡ Some n → me.0.ground ≡ Some (ground_of x)
-      → number e ≡ n → stands x (me.0.seen ++ e ∷ []) → me.1 ≡ (0, Some (record { value = x; made = Some e })) ∷ []
+  pub publishes_step : (slots id : ℕ) (me : M) (t n : ℕ) (x : Box T Global) (e : E) → slots ≡ 1 → me.0.stage ≡ Inside t → me.0.number ≡ Some n → me.0.ground ≡ Some (ground_of x.value)
+      → number e ≡ n → stands x.value (me.0.seen ++ e ∷ []) → me.1 ≡ (0, Some (record { value = x; made = Some e })) ∷ []
       → Allows Rule slots id me 1 (λ k. (k + 1) % 2 ^ 64) (published (step slots 1 1 0 none) me)
   publishes_step slots id me t n x e one in_it named g by stood has s r deep at small =
       let v : V = me.0 in let y : Held T E = record { value = x; made = Some e } in let w : V = record me.0 { seen = me.0.seen ++ e ∷ []; mine = me.0.mine ++ e ∷ []; stage = Idle } in
@@ -341,7 +341,7 @@ module _ {T E G : Type 0} (number : E → ℕ) (ground_of : T → G) (stands : T
       let made_is : made_in me.1 ≡ e ∷ [] = ap made_in has in
       let homed : hs ≡ some (Some y) ∷ [] = ap (put_back s.homes) has ∙ put_home s.homes (Some y) (deep ∙ one) in
       let mine_now : own number n (r.history ++ e ∷ []) ≡ v.mine ++ e ∷ [] = own-mine number n r.history e by ∙ ap (λ z. z ++ e ∷ []) named_here.1 in
-      let ground_is : ground_of x ≡ ground = of_some_any v.ground (ground_of x) g f.same_ground in (
+      let ground_is : ground_of x.value ≡ ground = of_some_any v.ground (ground_of x.value) g f.same_ground in (
         w,
         gives,
         tt,
@@ -370,7 +370,7 @@ module _ {T E G : Type 0} (number : E → ℕ) (ground_of : T → G) (stands : T
             })
             (λ u z. absurd (none_some u z))
             (below-snoc number (passes s.views) r.history e given r.names)
-            (λ _. (y, homed, subst (stands x) seen_now stood, ground_is)),
+            (λ _. (y, homed, subst (stands x.value) seen_now stood, ground_is)),
         ((λ i. (record me.0 { seen = me.0.seen ++ sym made_is i; mine = me.0.mine ++ sym made_is i; stage = Idle }, rest (has i))), is ∙ ap length (sym whole), omega (arith, limit_is)),
       )
 
@@ -560,7 +560,7 @@ module _ {T E G : Type 0} (number : E → ℕ) (ground_of : T → G) (stands : T
   single zero d e = (refl, some-injective (first_view ground) d e)
   single (suc j) d e = absurd (some-ne-none d (sym e))
 
-  pub opens : (x : Held T E) → stands x.value [] → ground_of x.value ≡ ground → Rule (record { words = 0 ∷ 0 ∷ []; homes = some (Some x) ∷ []; views = first_view ground ∷ [] })
+  pub opens : (x : Held T E) → stands x.value.value [] → ground_of x.value.value ≡ ground → Rule (record { words = 0 ∷ 0 ∷ []; homes = some (Some x) ∷ []; views = first_view ground ∷ [] })
   opens x stood is =
       let only : (j : ℕ) (d : V) → get_elem? (first_view ground ∷ []) j ≡ some d → (j ≡ 0) × (first_view ground ≡ d) = λ j d e. single j d e in
       record {
@@ -597,7 +597,7 @@ module _ {T E G : Type 0} (number : E → ℕ) (ground_of : T → G) (stands : T
   nobody lo hi (Some t) is p n e = let a = p.0 in let b = p.1 in omega arith
 
   pub ends : (id m : ℕ) (v : V) (ws : List ℕ) (xs : List (Option (Held T E))) (t n : ℕ) (y : Option (Held T E)) → Final (Seen Rule id v) ws xs
-      → get_elem? ws 0 ≡ some t → get_elem? ws 1 ≡ some n → get_elem? xs 0 ≡ some y → v.number ≡ Some m → IsSome v.ground → t ≡ n → (x : Held T E) × (y ≡ Some x) × Ends number ground_of stands m v x.value
+      → get_elem? ws 0 ≡ some t → get_elem? ws 1 ≡ some n → get_elem? xs 0 ≡ some y → v.number ≡ Some m → IsSome v.ground → t ≡ n → (x : Held T E) × (y ≡ Some x) × Ends number ground_of stands m v x.value.value
   ends id m v ws xs t n y (s, seen, words, _, vals) at0 at1 aty named has is =
       let r = seen.0 in let at = seen.1 in let f = r.fits id v at in
       let a = word_0 r.ticket (length r.history) ws t (sym r.words ∙ words) at0 in

@@ -86,7 +86,7 @@ module _ {E G : Type 0} (number : E → ℕ) where
 module _ {T E G : Type 0} (number : E → ℕ) (ground_of : T → G) (stands : T → List E → Type 0) where
   -- the slot is at home, and its value stands for the history over the ground (this project's own)
   abbrev pub IsHome : G → List E → List (maybe.Option (Option (Held T E))) → Type 0
-  IsHome ground history homes = (x : Held T E) × (homes ≡ maybe.some (Some x) ∷ []) × stands x.value history × (ground_of x.value ≡ ground)
+  IsHome ground history homes = (x : Held T E) × (homes ≡ maybe.some (Some x) ∷ []) × stands x.value.value history × (ground_of x.value.value ≡ ground)
 
   -- the rule: one history as long as `serving`, of which each view is a beginning, one ticket a view and one view a ticket, and the value that stands for the history where nobody is inside (this project's own)
   pub record Kept (ground : G) (s : State (Option (Held T E)) (View E G)) : Type 0 where
@@ -147,8 +147,8 @@ module _ {T E G : Type 0} where
       pub record IsIn (m : Sat T E G) (r : ℕ) (m' : Sat T E G) : Type 0 where
         pub held : Held T E
         pub now : m' ≡ (record m.0 { seen = m'.0.seen; also = []; stage = Inside r }, (0, Some held) ∷ m.1)
-        pub stood : stands held.value m'.0.seen
-        pub ground : m.0.ground ≡ Some (ground_of held.value)
+        pub stood : stands held.value.value m'.0.seen
+        pub ground : m.0.ground ≡ Some (ground_of held.value.value)
         pub long : length m'.0.seen ≡ r
         pub begins : IsPrefix m.0.seen m'.0.seen
         pub told : Told number m'.0

@@ -20,9 +20,9 @@ impl<T> Turn<T> {
     /// Lends the value, to be read and changed.
     pub fn value(&mut self) -> &mut T
         ensures* writes_back { sem 𝓛 (LendsValue T.row self.entry result) }
-        ensures value { result.now ≡ self.old.value }
+        ensures value { result.now ≡ self.old.value.value }
     {
-        &mut self.value
+        &mut *self.value
     }
 }
 
@@ -76,7 +76,8 @@ impl<T: Stands> Gate<T> {
             return Err(value);
         };
         let about = Snapshot::of(&value);
-        let slots = row_of(alloc, value)?;
+        let boxed = boxed(alloc, value)?;
+        let slots = row_of(alloc, boxed)?;
         match Table::new(alloc, &[0, 0], slots, &about) {
             Ok((table, seat)) => {
                 let pass = Pass {
@@ -129,8 +130,8 @@ impl<T: Stands> Gate<T> {
         requires free { IsFree pass.old }
         ensures same { IsSamePass pass.old pass.new }
         ensures inside { IfOk result (λ _. IsInside pass.new) }
-        ensures value { IfOk result (λ turn. T.stands turn.value (seen_of pass.new)) }
-        ensures ground { IfOk result (λ turn. ground_of pass.new ≡ Some (T.ground turn.value)) }
+        ensures value { IfOk result (λ turn. T.stands turn.value.value (seen_of pass.new)) }
+        ensures ground { IfOk result (λ turn. ground_of pass.new ≡ Some (T.ground turn.value.value)) }
         ensures begins { IfOk result (λ _. IsPrefix (seen_of pass.old) (seen_of pass.new)) }
         ensures own { IfOk result (λ _. own_of pass.new ≡ own_of pass.old) }
         ensures spent { IfErr result (λ spent. (2 ^ 62 ≤ spent.ticket)
@@ -154,9 +155,9 @@ impl<T: Stands> Gate<T> {
     pub fn leave(&self, pass: &mut Pass<T>, turn: Turn<T>, made: T::Entry)
         requires gate { IsOf self.now pass.old }
         requires inside { IsInside pass.old }
-        requires ground { ground_of pass.old ≡ Some (T.ground turn.value) }
+        requires ground { ground_of pass.old ≡ Some (T.ground turn.value.value) }
         requires number { T.number made ≡ number_of pass.old }
-        requires stands { T.stands turn.value (seen_of pass.old ++ made ∷ []) }
+        requires stands { T.stands turn.value.value (seen_of pass.old ++ made ∷ []) }
         ensures same { IsSamePass pass.old pass.new }
         ensures free { IsFree pass.new }
         ensures seen { seen_of pass.new ≡ seen_of pass.old ++ made ∷ [] }
@@ -250,17 +251,31 @@ impl<T: Stands> Gate<T> {
 // The value, of a slot that has one.
 fn value_of<T, E: Drop>(held: Option<Held<T, E>>) -> T
     requires { IsSome held }
-    ensures { (x : Held T E) → held ≡ Some x → result ≡ x.value }
+    ensures { (x : Held T E) → held ≡ Some x → result ≡ x.value.value }
 {
     let Held { value, made: _ } = held.unwrap();
-    value
+    Box::into_inner(value)
+}
+
+// The value in a box; for want of memory it comes back.
+fn boxed<T>(alloc: Global, value: T) -> Result<Box<T>, T>
+    ensures boxed { IfOk result (λ boxed. boxed.value ≡ value) }
+    ensures back { IfErr result (λ back. back ≡ value) }
+{
+    match Box::new(alloc, value) {
+        Ok(boxed) => Ok(boxed),
+        Err(AllocFailed { value }) => Err(value),
+    }
 }
 
 // The one slot of a table, with the value and no entry.
-fn row_of<T, E: Drop>(alloc: Global, value: T) -> Result<Vec<Option<Held<T, E>>>, T>
+fn row_of<T, E: Drop>(
+    alloc: Global,
+    value: Box<T>,
+) -> Result<Vec<Option<Held<T, E>>>, T>
     ensures row { IfOk result (λ row. row.items ≡ Some (record { value = value; made = None })
         ∷ []) }
-    ensures back { IfErr result (λ back. back ≡ value) }
+    ensures back { IfErr result (λ back. back ≡ value.value) }
 {
     let mut row = Vec::new(alloc);
     let held = Held { value, made: None };

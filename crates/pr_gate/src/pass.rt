@@ -69,7 +69,7 @@ pub struct Retired<T: Stands> {
 ///
 /// A turn has no `Drop`: it can only go back by `Gate::leave`.
 pub struct Turn<T> {
-    pub(crate) value: T,
+    pub(crate) value: Box<T>,
 }
 
 /// The answer of a gate whose tickets are used up.

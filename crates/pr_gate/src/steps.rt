@@ -71,7 +71,7 @@ pub(crate) fn wait<T: Stands, R: Wait>(board: &Board<T>, rt: &R, seat: &mut Plac
 }
 
 /// Takes the value out of the slot.
-pub(crate) fn take_out<T: Stands>(board: &Board<T>, seat: &mut Place<T>) -> T
+pub(crate) fn take_out<T: Stands>(board: &Board<T>, seat: &mut Place<T>) -> Box<T>
     requires table { (seat.old.table_id ≡ board.now.table_id) × IsSized board.now.table_id }
     requires inside { (held : Held T T.Entry) × (seat.old.me.1 ≡ (0, Some held) ∷ []) }
     ensures same { IsSameSeat seat.old seat.new }
@@ -86,14 +86,14 @@ pub(crate) fn take_out<T: Stands>(board: &Board<T>, seat: &mut Place<T>) -> T
 pub(crate) fn publish<T: Stands>(
     board: &Board<T>,
     seat: &mut Place<T>,
-    value: T,
+    value: Box<T>,
     made: T::Entry,
 ) -> u64
     requires table { (seat.old.table_id ≡ board.now.table_id) × IsSized board.now.table_id }
     requires inside { IsServed seat.old }
-    requires ground { seat.old.me.0.ground ≡ Some (T.ground value) }
+    requires ground { seat.old.me.0.ground ≡ Some (T.ground value.value) }
     requires names { seat.old.me.0.number ≡ Some (T.number made) }
-    requires stands { T.stands value (seat.old.me.0.seen ++ made ∷ []) }
+    requires stands { T.stands value.value (seat.old.me.0.seen ++ made ∷ []) }
     ensures same { IsSameSeat seat.old seat.new }
     ensures left { seat.new.me ≡ (
       record seat.old.me.0 {

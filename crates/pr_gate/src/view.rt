@@ -5,10 +5,11 @@ use std::collections::LinkedList;
 use std::marker::PhantomData;
 use std::snapshot::Snapshot;
 
-/// What lies in the slot: the value, and the entry that was made last.
+/// What lies in the slot: the value, and the entry that was made last. The value is boxed, so that a
+/// turn moves no more than its place.
 #[derive(Drop)]
 pub struct Held<T, E> {
-    pub value: T,
+    pub value: Box<T>,
     /// None before the first entry. It tells the step that publishes which entry it publishes.
     pub made: Option<E>,
 }

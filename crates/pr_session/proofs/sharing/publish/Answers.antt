@@ -20,7 +20,7 @@ perform-out-requires g c =
     let new = c.enter.new.pass in
     let core = c.value.result.now in
     subst (λ (w : ℕ). IsReadyIn c.args.session.now core w) (sym c.number-who.ensures)
-    (holds_now (ground_of old) (ground_of new) (number_of old) (number_of new) (seen_of old) (seen_of new) (own_of old) (own_of new) core c.in_ok-turn.turn.value (λ k. IsReadyIn c.args.session.now k (number_of old)) c.requires.ready
+    (holds_now (ground_of old) (ground_of new) (number_of old) (number_of new) (seen_of old) (seen_of new) (own_of old) (own_of new) core c.in_ok-turn.turn.value.value (λ k. IsReadyIn c.args.session.now k (number_of old)) c.requires.ready
     c.in_ok-turn.ensures.begins c.enter.ensures.same.4 c.enter.ensures.same.1 old.owned new.owned c.in_ok-turn.ensures.own c.in_ok-turn.ensures.ground c.in_ok-turn.ensures.value c.value.ensures.value)
 
 pub entry-entry-requires : goal.entry-entry-requires
