@@ -269,10 +269,7 @@ fn boxed<T>(alloc: Global, value: T) -> Result<Box<T>, T>
 }
 
 // The one slot of a table, with the value and no entry.
-fn row_of<T, E: Drop>(
-    alloc: Global,
-    value: Box<T>,
-) -> Result<Vec<Option<Held<T, E>>>, T>
+fn row_of<T, E: Drop>(alloc: Global, value: Box<T>) -> Result<Vec<Option<Held<T, E>>>, T>
     ensures row { IfOk result (λ row. row.items ≡ Some (record { value = value; made = None })
         ∷ []) }
     ensures back { IfErr result (λ back. back ≡ value.value) }

@@ -13,7 +13,7 @@ use Rattle.pr_grammar.specs.Standings.{Standing}
 use Rattle.pr_model.specs.Commands.{Answer, good, served, answered}
 use Rattle.pr_model.specs.Entries.{Out, Ended, Login_code, Started, Wrote, Read, Done, Aborted, Fault, Left, Restored, Command, entry}
 use Rattle.pr_model.specs.Histories.{MayFollow, moved}
-use Rattle.pr_model.specs.Limits.{LIMIT}
+use Rattle.pr_words.specs.declared.limits.TheConstants.{LIMIT}
 use Rattle.pr_model.specs.Registrants.{has_key}
 use Rattle.pr_model.specs.Worlds.{World}
 use Rattle.pr_param.specs.Fits.{FitKeys}

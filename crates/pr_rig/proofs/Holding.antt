@@ -18,11 +18,12 @@ use Rattle.pr_grammar.specs.Cdbs.{spelled_cdb}
 use Rattle.pr_grammar.specs.InReplies.{reservation_part, reservation_reply, read_reservation, told_held, told_reservation}
 use Rattle.pr_grammar.specs.OutLists.{list_of}
 use Rattle.pr_grammar.specs.Standings.{Standing, kind_of, holder_of, key_of, is_at, is_holder}
-use Rattle.pr_model.specs.Acts.{Acted, Verdict, Good, Conflict, Bad, acted, leads, stays, reserve, reserve_of, is_own, preempt, taking, removing, refusing, preempted, is_of_all, is_holders_key, while_any}
+use Rattle.pr_words.specs.declared.code.TheConstants.Code.{INVALID_FIELD_IN_PARAMETER_LIST, REGISTRATIONS_PREEMPTED}
+use Rattle.pr_model.specs.Acts.{Acted, Verdict, Good, Conflict, Bad, acted, leads, stays, reserve, reserve_of, is_own, preempt, taking, removing, is_of_all, is_holders_key, while_any}
 use Rattle.pr_model.specs.Commands.{good, by_verdict, out_request}
 use Rattle.pr_model.specs.Entries.{Command, entry}
 use Rattle.pr_model.specs.Histories.{MayFollow, moved}
-use Rattle.pr_model.specs.Limits.{LIMIT}
+use Rattle.pr_words.specs.declared.limits.TheConstants.{LIMIT}
 use Rattle.pr_model.specs.Registrants.{has_key, but_those, held}
 use Rattle.pr_model.specs.Worlds.{World}
 use Rattle.pr_param.specs.Fits.{FitsHeld}
@@ -148,8 +149,8 @@ preempt_holds s n own key is other stands =
         anybody false none same = absurd cc
 
     by : (a b c d : Bool)
-        → HoldsIfGood (if a then (if b then taking s n 0 5 (λ p. not (is_at n p)) else stays s (refusing 0x26 0)) else if c then taking s n 0 5 (λ p. has_key key p && not (is_at n p)) else
-        if d then removing s (has_key key) (while_any (but_those (has_key key) s.pairs) s.reservation) preempted None else stays s Conflict)
+        → HoldsIfGood (if a then (if b then taking s n 0 5 (λ p. not (is_at n p)) else stays s (Bad INVALID_FIELD_IN_PARAMETER_LIST)) else if c then taking s n 0 5 (λ p. has_key key p && not (is_at n p)) else
+        if d then removing s (has_key key) (while_any (but_those (has_key key) s.pairs) s.reservation) REGISTRATIONS_PREEMPTED None else stays s Conflict)
     by true true c d good = taken_holds s n (λ p. not (is_at n p)) good
     by true false c d good = absurd cc
     by false b true d good = taken_holds s n (λ p. has_key key p && not (is_at n p)) good

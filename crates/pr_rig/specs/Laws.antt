@@ -10,7 +10,7 @@ use Rattle.pr_grammar.specs.OutLists.{list_of}
 use Rattle.pr_model.specs.Commands.{good}
 use Rattle.pr_model.specs.Entries.{Command, Entry, entry}
 use Rattle.pr_model.specs.Histories.{MayFollow, moved}
-use Rattle.pr_model.specs.Limits.{LIMIT}
+use Rattle.pr_words.specs.declared.limits.TheConstants.{LIMIT}
 use Rattle.pr_model.specs.Registrants.{has_key}
 use Rattle.pr_model.specs.Worlds.{World}
 use Rattle.pr_param.specs.Fits.{FitKeys, FitsHeld}
