@@ -1,25 +1,21 @@
-/* Puts load on a target over its link: so many sessions at once, each of which sends one command and
-   waits for its reply. For each row and number of sessions it prints a line of fields with tabs
-   between them: the row, sessions, commands a second, and blocks a second.
+/* Puts load on a target over its link, or, where it is built with OVER_ISCSI, over iSCSI: so many
+   sessions at once, each of which sends one command and waits for its reply. For each row and number of
+   sessions it prints a line of fields with tabs between them: the row, sessions, commands a second, and
+   blocks a second. Both are 0 for a row of which the first command isn't GOOD.
 
    load HOST:PORT SECONDS SESSIONS...
 
    The environment's ROWS, where it is set, is a part of the names of the rows that are wanted.
    It logs in under 64 names, which all register before the keys are read and unregister at the end.
    The unit has at least 65,536 blocks (32 MiB); 4,096 are each session's own. */
-#include <arpa/inet.h>
-#include <netinet/tcp.h>
 #include <pthread.h>
 #include <stdint.h>
 #include <stdio.h>
 #include <stdlib.h>
 #include <string.h>
-#include <sys/uio.h>
 #include <time.h>
-#include <unistd.h>
 
-enum { NAMES = 64, BLOCK = 512, MOST = 1024, OWN = 4096, HEAD = 12, COMMAND = 20, STATUS = 4, SENSE = 18 };
-enum { LOGIN = 0x01, COMMAND_KIND = 0x02, LOGOUT = 0x03, REPLY = 0x80 };
+enum { NAMES = 64, BLOCK = 512, MOST = 1024, OWN = 4096 };
 enum { TEST_UNIT_READY = 0x00, READ = 0x28, WRITE = 0x2A, RESERVE_IN = 0x5E, RESERVE_OUT = 0x5F };
 
 struct row {
@@ -41,12 +37,14 @@ static const struct row rows[] = {
 };
 
 struct session {
-    int socket;
-    uint32_t number, tag;
+    int socket;              /* over the link */
+    uint32_t tag;
+    uint8_t status[4];       /* of a command: status and sense length; of a login: its code */
+    void *context;           /* over iSCSI */
+    uint32_t number;
     uint64_t turn, done;
-    uint8_t *out, *in; /* MOST blocks each */
-    uint8_t status[4]; /* of a command: status and sense length; of a login: its code */
-    uint32_t in_length;
+    uint8_t *out, *in;       /* MOST blocks each */
+    uint32_t in_length;      /* the data-in that came */
     const struct row *row;
     double until;
     pthread_t thread;
@@ -68,11 +66,6 @@ static void put(uint8_t *at, uint64_t value, int bytes)
     }
 }
 
-static uint32_t get(const uint8_t *at)
-{
-    return (uint32_t)at[0] << 24 | (uint32_t)at[1] << 16 | (uint32_t)at[2] << 8 | at[3];
-}
-
 static double now(void)
 {
     struct timespec time;
@@ -80,79 +73,11 @@ static double now(void)
     return (double)time.tv_sec + (double)time.tv_nsec / 1e9;
 }
 
-static int dial(const char *address)
-{
-    char host[64] = "";
-    const char *colon = strrchr(address, ':');
-    struct sockaddr_in to = { .sin_family = AF_INET };
-    int one = 1, connection = socket(AF_INET, SOCK_STREAM, 0);
-    if (!colon || colon - address >= (long)sizeof host)
-        fail("an address is HOST:PORT");
-    memcpy(host, address, (size_t)(colon - address));
-    to.sin_port = htons((uint16_t)atoi(colon + 1));
-    if (inet_pton(AF_INET, host, &to.sin_addr) != 1)
-        fail("a host is four numbers");
-    setsockopt(connection, IPPROTO_TCP, TCP_NODELAY, &one, sizeof one);
-    if (connect(connection, (struct sockaddr *)&to, sizeof to))
-        fail("no connection");
-    return connection;
-}
-
-static void send_all(int connection, struct iovec *parts, int count)
-{
-    while (count) {
-        ssize_t sent = writev(connection, parts, count);
-        if (sent <= 0)
-            fail("the target takes no more");
-        for (; count && (size_t)sent >= parts->iov_len; parts++, count--)
-            sent -= (ssize_t)parts->iov_len;
-        if (count) {
-            parts->iov_base = (char *)parts->iov_base + sent;
-            parts->iov_len -= (size_t)sent;
-        }
-    }
-}
-
-static void receive_all(int connection, void *at, size_t bytes)
-{
-    if (bytes && recv(connection, at, bytes, MSG_WAITALL) != (ssize_t)bytes)
-        fail("the target has ended the connection");
-}
-
-/* Sends a frame and receives the reply's head, with what begins each body but that of a Logout reply;
-   says how many bytes follow. */
-static uint32_t exchange(struct session *s, uint8_t kind, uint8_t *body, uint32_t length, uint32_t out)
-{
-    uint8_t head[HEAD] = { 0 }, reply[HEAD + STATUS] = { 0 };
-    uint32_t first = kind == LOGOUT ? HEAD : HEAD + STATUS;
-    struct iovec parts[] = { { head, HEAD }, { body, length }, { s->out, out } };
-    put(head, HEAD - 4 + length + out, 4);
-    head[4] = kind;
-    put(head + 8, ++s->tag, 4);
-    send_all(s->socket, parts, 3);
-    receive_all(s->socket, reply, first);
-    if (get(reply) + 4 < first || reply[4] != (kind | REPLY) || get(reply + 8) != s->tag)
-        fail("not the reply to what was asked");
-    memcpy(s->status, reply + HEAD, STATUS);
-    return get(reply) + 4 - first;
-}
-
-/* Sends a command; its status, and its data-in in the session. */
-static uint8_t command(struct session *s, const uint8_t *cdb, uint8_t cdb_length, uint32_t out)
-{
-    uint8_t body[COMMAND] = { cdb_length }, sense[SENSE];
-    memcpy(body + 4, cdb, cdb_length);
-    uint32_t rest = exchange(s, COMMAND_KIND, body, COMMAND, out);
-    uint8_t sense_length = s->status[1];
-    if (sense_length > rest || (sense_length && sense_length != SENSE))
-        fail("sense data of another length");
-    receive_all(s->socket, sense, sense_length);
-    s->in_length = rest - sense_length;
-    if (s->in_length > MOST * BLOCK)
-        fail("more data than was asked for");
-    receive_all(s->socket, s->in, s->in_length);
-    return s->status[0];
-}
+#ifdef OVER_ISCSI
+#include "over_iscsi.h"
+#else
+#include "over_link.h"
+#endif
 
 /* REGISTER AND IGNORE EXISTING KEY; a zero key unregisters. */
 static uint8_t registration(struct session *s, uint64_t key, uint8_t keeps)
@@ -161,13 +86,13 @@ static uint8_t registration(struct session *s, uint64_t key, uint8_t keeps)
     memset(s->out, 0, 24);
     put(s->out + 8, key, 8);
     s->out[20] = keeps;
-    return command(s, cdb, 10, 24);
+    return command(s, cdb, 10, 24, 0);
 }
 
 static uint8_t read_keys(struct session *s)
 {
     const uint8_t cdb[10] = { RESERVE_IN, 0, 0, 0, 0, 0, 0, 0x04 };
-    uint8_t status = command(s, cdb, 10, 0);
+    uint8_t status = command(s, cdb, 10, 0, 1024);
     if (!status && s->in_length != 8 + 8 * NAMES)
         fail("not 64 keys");
     return status;
@@ -179,7 +104,8 @@ static uint8_t transfer(struct session *s)
     uint32_t bytes = s->row->blocks * BLOCK;
     put(cdb + 2, s->number * OWN + s->turn * s->row->blocks % OWN, 4);
     put(cdb + 7, s->row->blocks, 2);
-    uint8_t status = command(s, cdb, 10, s->row->operation == WRITE ? bytes : 0);
+    int writes = s->row->operation == WRITE;
+    uint8_t status = command(s, cdb, 10, writes ? bytes : 0, writes ? 0 : bytes);
     if (!status && s->row->operation == READ && s->in_length != bytes)
         fail("fewer blocks than were asked for");
     return status;
@@ -188,7 +114,7 @@ static uint8_t transfer(struct session *s)
 static uint8_t test_unit_ready(struct session *s)
 {
     const uint8_t cdb[6] = { TEST_UNIT_READY };
-    return command(s, cdb, 6, 0);
+    return command(s, cdb, 6, 0, 0);
 }
 
 /* The keys of two turns in a row differ, so that with APTPL one each changes what is kept. */
@@ -219,9 +145,14 @@ static void *load(void *of)
 static void measure(const struct row *row, int count, double seconds)
 {
     uint64_t done = 0;
+    for (int i = 0; i < NAMES; i++)
+        sessions[i].row = row;
+    if (once(&sessions[0])) {
+        printf("%s\t%d\t0\t0\n", row->name, count);
+        return;
+    }
     double from = now();
     for (int i = 0; i < count; i++) {
-        sessions[i].row = row;
         sessions[i].until = from + seconds;
         if (pthread_create(&sessions[i].thread, NULL, load, &sessions[i]))
             fail("no thread");
@@ -238,16 +169,11 @@ static void measure(const struct row *row, int count, double seconds)
 /* Logs in, and takes the unit attentions that wait. */
 static void begin(struct session *s, uint32_t number, const char *address)
 {
-    uint8_t login[12] = { 1, 0, 0, 1 };
-    *s = (struct session){ .socket = dial(address), .number = number };
-    s->out = calloc(MOST, BLOCK);
-    s->in = calloc(MOST, BLOCK);
+    *s = (struct session){ .number = number, .out = calloc(MOST, BLOCK), .in = calloc(MOST, BLOCK) };
     if (!s->out || !s->in)
         fail("no memory");
     memset(s->out, 0x5A, MOST * BLOCK);
-    put(login + 4, 0x1000 + number, 8);
-    if (exchange(s, LOGIN, login, sizeof login, 0) || s->status[0])
-        fail("a login is refused");
+    log_in(s, address);
     for (int tries = 0; test_unit_ready(s); tries++)
         if (tries == 8)
             fail("the unit isn't ready");
@@ -255,9 +181,9 @@ static void begin(struct session *s, uint32_t number, const char *address)
 
 static void end(struct session *s)
 {
-    if (registration(s, 0, 0) || exchange(s, LOGOUT, NULL, 0, 0))
+    if (registration(s, 0, 0))
         fail("a session doesn't end");
-    close(s->socket);
+    log_out(s);
 }
 
 int main(int count, char **words)
