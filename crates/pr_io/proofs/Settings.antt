@@ -1,8 +1,11 @@
 -- One device of several moves on, and its line with it.
-use Rattle.std.proofs.Common.{◌≡◌, ℕ, zero, suc, ◌<◌, List, [], ◌∷◌, length, refl, sym, arith, subst}
+use Rattle.std.proofs.Common.{◌≡◌, ℕ, zero, suc, ◌<◌, List, [], ◌∷◌, length, refl, sym, ap, ◌∙◌, arith, subst}
 use Rattle.std.specs.Prelude.{slice_set, slice_index_or}
 use Rattle.std.proofs.lemmas.Bool.{eq-eqb, ne_eqb}
 use Rattle.pr_io.specs.Lines.{Line}
+use Rattle.std.specs.declared.string.String.{String}
+use Rattle.std.specs.String.{string_bytes}
+use Rattle.pr_io.specs.Recordings.{addresses_of}
 use Rattle.pr_io.specs.Devices.{AllStand, AllCome, changed_at}
 
 -- the line of the place is changed, and the others are as they were
@@ -53,3 +56,10 @@ come_to comes (d ∷ ds) (e ∷ es) l m n same all =
     (subst (λ (w : Line). comes d (l 0) e w) (sym (same 0)) all.0, come_to comes ds es (λ j. l (suc j)) (λ j. m (suc j)) (λ j. n (suc j)) (λ j. same (suc j)) all.1)
 come_to comes [] (e ∷ es) l m n same all = absurd all
 come_to comes (d ∷ ds) [] l m n same all = absurd all
+
+-- the device of one place changes, but for its address
+pub addresses_set : {Z P : Type 0} (ds : List (String Z × P)) (i : ℕ) (d x : String Z × P) → i < length ds → d ≡ slice_index_or ds i d → string_bytes x.0 ≡ string_bytes d.0
+    → addresses_of (slice_set ds i x) ≡ addresses_of ds
+addresses_set [] i d x within is same = absurd (omega (arith, within))
+addresses_set (e ∷ ds) zero d x within is same = ap (λ (a : List ℕ). a ∷ addresses_of ds) (same ∙ ap (λ y. string_bytes y.0) is)
+addresses_set (e ∷ ds) (suc i) d x within is same = ap (λ (l : List (List ℕ)). string_bytes e.0 ∷ l) (addresses_set ds i d x (omega (arith, within)) is same)

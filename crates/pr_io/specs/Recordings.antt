@@ -1,7 +1,8 @@
 -- The connections that a wire in memory has recorded (this project's own).
-use Rattle.std.specs.Prelude.{◌≡◌, ℕ, ◌==◌, List, Option, Some, None, map, if◌then◌else◌}
+use Rattle.std.specs.Prelude.{◌≡◌, ℕ, ◌==◌, List, [], ◌∷◌, Option, Some, None, map, slice_get, if◌then◌else◌}
 use Rattle.std.specs.List.{filter}
 use Rattle.std.specs.String.{string_bytes}
+use Rattle.std.specs.declared.string.String.{String}
 use Rattle.pr_io.specs.declared.recorded.Recorded.{Recorded}
 use Rattle.pr_io.specs.Talks.{Connection, Talk}
 use Rattle.pr_io.specs.Lines.{Exchange, Line, nothing_said}
@@ -33,3 +34,22 @@ IsLater change old new = (new.device ≡ old.device) × (told_of new ≡ change 
 -- (this project's own)
 abbrev pub line_of : List Recorded → Option Recorded → ℕ → Line
 line_of earlier current i = record { past = map exchange_of (filter (λ r. r.device == i) earlier); last = last_of i current }
+
+-- the addresses of devices, by their places (this project's own)
+abbrev pub addresses_of : {Z P : Type 0} → List (String Z × P) → List (List ℕ)
+addresses_of ds = map (λ d. string_bytes d.0) ds
+
+abbrev pub address_at : List (List ℕ) → Recorded → Option (List ℕ)
+address_at addresses r = slice_get addresses r.device
+
+abbrev pub own_address : Recorded → Option (List ℕ)
+own_address r = Some (string_bytes r.address)
+
+-- each of these connections is one to the device of its address (this project's own)
+abbrev pub AreNamed : List (List ℕ) → List Recorded → Type 0
+AreNamed addresses rs = map (address_at addresses) rs ≡ map own_address rs
+
+-- the connection that stands, if any (this project's own)
+abbrev pub standing : Option Recorded → List Recorded
+standing None = []
+standing (Some r) = r ∷ []

@@ -5,6 +5,7 @@ ghost use Rattle.std.specs.String.{string_bytes};
 ghost use Rattle.std.specs.Bool.{OnTrue};
 ghost use Rattle.pr_io.specs.Devices.{AllStand, AllCome, DeviceStands, DeviceComes, changed_at};
 ghost use Rattle.pr_io.specs.Lines.{Line, hearing, saying, hung_up};
+ghost use Rattle.pr_io.specs.Recordings.{addresses_of};
 
 use crate::Peer;
 
@@ -19,6 +20,7 @@ pub(crate) fn hear_at<P: Peer + Drop>(devices: &mut Vec<(String, P)>, i: usize, 
         AllCome (DeviceComes P.comes) devices.old.items lines
         devices.new.items (changed_at i (λ l. hearing l bytes.now) lines) }
     ensures size { length devices.new.items ≡ length devices.old.items }
+    ensures same { addresses_of devices.new.items ≡ addresses_of devices.old.items }
 {
     devices[i].1.hear(bytes);
 }
@@ -38,6 +40,7 @@ pub(crate) fn say_at<P: Peer + Drop>(
         AllCome (DeviceComes P.comes) devices.old.items lines
         devices.new.items (changed_at i (λ l. saying l result (length buf.new) buf.new) lines) }
     ensures size { length devices.new.items ≡ length devices.old.items }
+    ensures same { addresses_of devices.new.items ≡ addresses_of devices.old.items }
 {
     devices[i].1.say(buf)
 }
@@ -51,6 +54,7 @@ pub(crate) fn hang_up_at<P: Peer + Drop>(devices: &mut Vec<(String, P)>, i: usiz
         AllCome (DeviceComes P.comes) devices.old.items lines
         devices.new.items (changed_at i hung_up lines) }
     ensures size { length devices.new.items ≡ length devices.old.items }
+    ensures same { addresses_of devices.new.items ≡ addresses_of devices.old.items }
 {
     devices[i].1.hang_up();
 }

@@ -4,7 +4,7 @@ ghost use Rattle.std.proofs.Props.{props};
 ghost use Rattle.pr_io.specs.Causes.{next_fault};
 ghost use Rattle.pr_io.specs.Devices.{AllStand, AllGoOn, DeviceStands, DeviceComes, all_go_on_at_once, all_go_on_later};
 ghost use Rattle.pr_io.specs.Lines.{new_line};
-ghost use Rattle.pr_io.specs.Recordings.{line_of, talk_of, told_of};
+ghost use Rattle.pr_io.specs.Recordings.{AreNamed, addresses_of, line_of, standing, talk_of, told_of};
 ghost use Rattle.pr_io.specs.Talks.{connection, sent_of};
 
 use crate::calls::Calls;
@@ -26,6 +26,8 @@ pub struct MemWire<P: Peer + Drop> {
     faults: Faults,
     starved: u64,
     ghost within: { IfSome current (λ r. r.device < length devices.items) } by { Prim.hlevel props },
+    ghost named: { AreNamed (addresses_of devices.items) (standing current) },
+    ghost past: { AreNamed (addresses_of devices.items) earlier.items },
 }
 
 impl<P: Peer + Drop> MemWire<P> {

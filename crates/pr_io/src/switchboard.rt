@@ -1,8 +1,8 @@
 //! What connects a wire in memory with its targets, and records what passes between them.
 
-ghost use Rattle.std.specs.Prelude.{◌≡◌, ◌≤◌, ◌<◌, List, [], ◌∷◌, ◌++◌, None, Some, length, map, vec_capacity, vec_len, IfOk, IfSome, OnOk, OnErr};
+ghost use Rattle.std.specs.Prelude.{◌≡◌, ◌≤◌, ◌<◌, ℕ, List, [], ◌∷◌, ◌++◌, None, Some, length, map, vec_capacity, vec_len, IfOk, IfSome, OnOk, OnErr};
 ghost use Rattle.pr_io.specs.Devices.{AllGoOn, DeviceStands, DeviceComes};
-ghost use Rattle.pr_io.specs.Recordings.{IsLater, line_of, talk_of, told_of};
+ghost use Rattle.pr_io.specs.Recordings.{AreNamed, IsLater, addresses_of, line_of, standing, talk_of, told_of};
 ghost use Rattle.pr_io.specs.Talks.{connections, sent_on, received_on};
 ghost use Rattle.pr_io.specs.declared.recorded.Recorded.{Recorded};
 
@@ -27,6 +27,7 @@ pub(crate) fn speak<P: Peer + Drop>(
 ) -> Result<(), Refused>
     requires within { recorded.old.device < length devices.old.items }
     ensures size { length devices.new.items ≡ length devices.old.items }
+    ensures same { addresses_of devices.new.items ≡ addresses_of devices.old.items }
     ensures sent { OnOk result (IsLater (λ c. sent_on c bytes.now) recorded.old recorded.new) }
     ensures none { OnErr result (IsLater (λ c. c) recorded.old recorded.new) }
     ensures kept { OnErr result (devices.new.items ≡ devices.old.items) }
@@ -54,6 +55,7 @@ pub(crate) fn listen<P: Peer + Drop>(
 ) -> Result<usize, Refused>
     requires within { recorded.old.device < length devices.old.items }
     ensures size { length devices.new.items ≡ length devices.old.items }
+    ensures same { addresses_of devices.new.items ≡ addresses_of devices.old.items }
     ensures count { IfOk result (λ n. n ≤ length buf.old) }
     ensures received { IfOk result (λ n. IsLater
         (λ c. received_on c n (length buf.new) buf.new) recorded.old recorded.new) }
@@ -84,6 +86,7 @@ fn give_up<P: Peer + Drop>(
     requires within { before.device < length devices.old.items }
     requires room { vec_len earlier.old < vec_capacity earlier.old }
     ensures size { length devices.new.items ≡ length devices.old.items }
+    ensures same { addresses_of devices.new.items ≡ addresses_of devices.old.items }
     ensures earlier { earlier.new.items ≡ earlier.old.items ++ before ∷ [] }
     ensures come { AllGoOn (DeviceStands P.stands) (DeviceComes P.comes)
         devices.old.items (line_of earlier.old.items (Some before))
@@ -104,8 +107,11 @@ pub(crate) fn part<P: Peer + Drop>(
     requires within { IfSome current (λ r. r.device < length devices.old.items) }
     requires room { vec_len earlier.old < vec_capacity earlier.old }
     ensures size { length devices.new.items ≡ length devices.old.items }
+    ensures same { addresses_of devices.new.items ≡ addresses_of devices.old.items }
     ensures earlier { map told_of earlier.new.items ≡
         connections (talk_of earlier.old.items current) }
+    ensures named { (addresses : List (List ℕ)) → AreNamed addresses (standing current)
+        → AreNamed addresses earlier.old.items → AreNamed addresses earlier.new.items }
     ensures come { AllGoOn (DeviceStands P.stands) (DeviceComes P.comes)
         devices.old.items (line_of earlier.old.items current)
         devices.new.items (line_of earlier.new.items None) }

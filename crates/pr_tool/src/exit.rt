@@ -36,7 +36,7 @@ pub enum Exit {
 #[derive(Clone, Copy, Debug, PartialEq, Eq, Error)]
 pub enum Fault {
     /// The words of the command line make no command.
-    #[error("the words are neither `show`, `persist` nor `replay` with 1 to 64 lanes")]
+    #[error("the words are neither `show`, `persist`, `fence`, `serve` nor `replay` with 1 to 64 lanes")]
     Words,
     /// The input failed.
     #[error("the input couldn't be read")]
