@@ -1,6 +1,7 @@
 -- Commands behind which a reservation stands.
-use Rattle.std.proofs.Common.{◌≡◌, ℕ, ◌==◌, ◌≤◌, Bool, true, false, not, ◌&&◌, List, [], ◌∷◌, length, take, Option, Some, None, refl, sym, ap, ◌∙◌, subst, arith}
+use Rattle.std.proofs.Common.{◌≡◌, ℕ, ◌==◌, ◌≤◌, Bool, true, false, not, ◌&&◌, List, [], ◌∷◌, ◌++◌, length, take, Option, Some, None, refl, sym, ap, ◌∙◌, subst, arith}
 use Rattle.std.specs.Prelude.{Ok, if◌then◌else◌}
+use Rattle.std.specs.Int.{w32, to_be_bytes}
 use Rattle.std.specs.List.{list_any}
 use Rattle.std.proofs.lemmas.Bool.{false≢true, eqb-true}
 use Rattle.std.proofs.lemmas.List.{take_all}
@@ -12,10 +13,9 @@ use Rattle.pr_words.specs.declared.reservation.Reservation.{Reservation}
 use Rattle.pr_words.specs.declared.reservation.Reservation.TheVariants.{Free, OfOne, OfAll}
 use Rattle.pr_words.specs.Kinds.{kind_code}
 use Rattle.pr_grammar.specs.declared.cdb.Command.TheVariants.{ReserveIn, ReserveOut}
-use Rattle.pr_grammar.specs.declared.param.Held.{Held}
 use Rattle.pr_grammar.specs.declared.param.OutList.{OutList}
 use Rattle.pr_grammar.specs.Cdbs.{spelled_cdb}
-use Rattle.pr_grammar.specs.InReplies.{reservation_part, reservation_reply, read_reservation, told_held, told_reservation}
+use Rattle.pr_grammar.specs.InReplies.{reservation_part, reservation_reply}
 use Rattle.pr_grammar.specs.OutLists.{list_of}
 use Rattle.pr_grammar.specs.Standings.{Standing, kind_of, holder_of, key_of, is_at, is_holder}
 use Rattle.pr_words.specs.declared.code.TheConstants.Code.{INVALID_FIELD_IN_PARAMETER_LIST, REGISTRATIONS_PREEMPTED}
@@ -26,11 +26,8 @@ use Rattle.pr_model.specs.Histories.{MayFollow, moved}
 use Rattle.pr_words.specs.declared.limits.TheConstants.{LIMIT}
 use Rattle.pr_model.specs.Registrants.{has_key, but_those, held}
 use Rattle.pr_model.specs.Worlds.{World}
-use Rattle.pr_param.specs.Fits.{FitsHeld}
-use Rattle.pr_param.proofs.RoundTrips.{reservation_read_back}
 use Rattle.pr_initiator.specs.Commands.{plain_cdb}
-use Rattle.pr_fence.specs.declared.asked.Asked.TheVariants as ask
-use Rattle.pr_fence.specs.Seeing.{held_in, is_some, told_by}
+use Rattle.pr_fence.specs.Seeing.{held_in}
 use Rattle.pr_rig.specs.Rig.{IsReserved}
 use Rattle.pr_rig.proofs.Answered.{served_by, same_told}
 
@@ -47,22 +44,24 @@ part_length pairs (Some kind) (Some holder) = omega arith
 reply_length : (s : Standing) → length (reservation_reply s) ≤ 65535
 reply_length s = let h = part_length s.pairs (kind_of s.reservation) (holder_of s.reservation) in omega (arith, h)
 
-told_some : (s : Standing) → true ≡ is_some (told_held s.pairs (kind_of s.reservation) (holder_of s.reservation)) → IsReserved s
-told_some s found free = absurd (let never : true ≡ false = found ∙ ap (λ (r : Reservation). is_some (told_held s.pairs (kind_of r) (holder_of r))) free in cc)
+-- where none is held, none is read, whatever the generation is
+none_read : (generation : ℕ) (pairs : List Pair) (holder : Option Nexus) → held_in (to_be_bytes w32 generation ++ reservation_part pairs None holder) ≡ Ok false
+none_read generation pairs holder = refl
 
-told_reserved : (s : Standing) (told : List ℕ) → FitsHeld s → good (take 65535 (reservation_reply s)) ≡ good told → Ok true ≡ held_in told → IsReserved s
-told_reserved s told fits is there =
+told_reserved : (s : Standing) (told : List ℕ) → good (take 65535 (reservation_reply s)) ≡ good told → Ok true ≡ held_in told → IsReserved s
+told_reserved s told is there free =
     let whole : reservation_reply s ≡ told = sym (take_all 65535 (reservation_reply s) (reply_length s)) ∙ same_told (take 65535 (reservation_reply s)) told is in
-    let read : read_reservation told ≡ Ok (told_reservation s) = ap read_reservation (sym whole) ∙ reservation_read_back s fits in
-    let found : Ok true ≡ Ok (is_some (told_reservation s).held) = there ∙ ap (told_by ask.Reservation (λ (h : Held). is_some h.held)) read in
-    told_some s (let same : true ≡ is_some (told_reservation s).held = cc in same)
+    let none : kind_of s.reservation ≡ None = ap kind_of free in
+    let part : held_in (reservation_reply s) ≡ held_in (to_be_bytes w32 s.generation ++ reservation_part s.pairs None (holder_of s.reservation)) = ap (λ (k : Option Kind). held_in (to_be_bytes w32 s.generation ++ reservation_part s.pairs k (holder_of s.reservation))) none in
+    let never : Ok true ≡ Ok false = there ∙ ap held_in (sym whole) ∙ part ∙ none_read s.generation s.pairs (holder_of s.reservation) in
+    absurd cc
 
 -- where READ RESERVATION is answered GOOD, with data that tell of one, it stands, and the world stays
-pub reservation_tells : (w : World) (who : ℕ) (n : Nexus) (lun : ℕ) (sent told : List ℕ) → FitsHeld w.standing → MayFollow w (entry who n (Command lun reservation_cdb sent) (good told)) → Ok true ≡ held_in told
+pub reservation_tells : (w : World) (who : ℕ) (n : Nexus) (lun : ℕ) (sent told : List ℕ) → MayFollow w (entry who n (Command lun reservation_cdb sent) (good told)) → Ok true ≡ held_in told
     → (moved w (entry who n (Command lun reservation_cdb sent) (good told)) ≡ w) × IsReserved w.standing
-reservation_tells w who n lun sent told fits may there =
+reservation_tells w who n lun sent told may there =
     let served = served_by w who n lun reservation_cdb sent told may in
-    (served.world, told_reserved w.standing told fits served.out there)
+    (served.world, told_reserved w.standing told served.out there)
 
 -- PERSISTENT RESERVE OUT
 
