@@ -1,3 +1,11 @@
 pub mod Answered
+pub mod Fenced
+pub mod Hearing
 pub mod Holding
+pub mod Lasting
 pub mod Nodes
+pub mod Ousting
+pub mod Passing
+pub mod Telling
+pub mod Turning
+pub mod Wiring

@@ -4,7 +4,7 @@ ghost use Rattle.pr_fence.specs.Views.{texts_of};
 ghost use Rattle.pr_fence.specs.Whole.{Ends, told_wire};
 ghost use Rattle.pr_fence.specs.Words.{Wanted, FenceItself, FenceOff, MakeNoCommand, wanted_by};
 ghost use Rattle.pr_io.specs.Told.{told_sink};
-ghost use Rattle.pr_rig.specs.Rig.{AllHaveMade};
+ghost use Rattle.pr_rig.specs.Rig.{AllHaveMade, AreFencedAt};
 ghost use Rattle.pr_words.specs.declared.nexus.Key.{Key};
 
 use pr_fence::{FenceExit, fence_main};
@@ -32,6 +32,8 @@ pub fn fence_rig<M: Medium + Drop, D: Disk + Drop, K: Sink>(
         (told_wire ⟦<MemWire<LanePeer<M, D>> as Wire>⟧ wire.new) }
     ensures comes { ⟦<MemWire<LanePeer<M, D>> as Wire>⟧.comes wire.old wire.new }
     ensures made { AllHaveMade wire.old → AllHaveMade wire.new }
+    ensures fenced { (w : Wanted) (victim : Key) → FenceOff (texts_of words.now) w victim →
+        result ≡ FenceExit.Done → AllHaveMade wire.old → AreFencedAt wire.new victim w.addresses }
 {
     fence_main(alloc, words, wire, sink)
 }
