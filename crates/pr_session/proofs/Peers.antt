@@ -13,7 +13,7 @@ use Rattle.pr_io.specs.declared.outside.Medium as media
 use Rattle.pr_io.specs.declared.outside.Disk as disks
 use Rattle.pr_core.specs.declared.target.Core.{Core}
 use Rattle.pr_core.specs.View.{Extends, disk_of, faults_after}
-use Rattle.pr_core.specs.Shared.{Stands}
+use Rattle.pr_core.specs.Shared.{ArePowered, Stands}
 use Rattle.pr_core.proofs.Entering.{extends_none, extends_append}
 use Rattle.pr_core.proofs.SharedLaws.{extends_stands, powered-append}
 use Rattle.pr_session.specs.declared.session.Session.{Session}
@@ -22,7 +22,7 @@ use Rattle.pr_session.specs.Sessions.{HasTurned, lane_of, reply_of}
 use Rattle.pr_session.specs.Driving.{Follows}
 use Rattle.pr_session.specs.Feeding.{fed_at, fed}
 use Rattle.pr_session.specs.Answering.{TakesTurns}
-use Rattle.pr_session.specs.Peers.{room_at, room_of, AskedInTurn, IsAnswered, HasMade, Comes}
+use Rattle.pr_session.specs.Peers.{room_at, room_of, AskedInTurn, IsAnswered, HasMade, AsksBehind, Comes}
 use Rattle.pr_session.proofs.LaterBytes.{asks_grow, asks_more}
 use Rattle.pr_session.proofs.Shrinking.{powered_made, powered_closing}
 use Rattle.pr_model.proofs.SessionLaws.{turns_join}
@@ -92,13 +92,39 @@ module _ {M D : Type 0} {gm : media.Ghosts M} {gd : disks.Ghosts D} where
         powered = powered-append first.entries second.entries first.powered second.powered;
       }
 
+  -- what all connections asked for is what those asked for that come behind none
+  asks_behind_none : (p : LanePeer M D gm gd) (l : Line) (h : History) → HasMade p l h → AsksBehind [] p l h
+  asks_behind_none p l h made = record { others = l.past; earlier = made.earlier; asked = made.asked; line = refl; all = made.all; past = made.past; asks = made.asks; quiet = made.quiet }
+
+  made_by : (p : LanePeer M D gm gd) (l : Line) (h : History) → AsksBehind [] p l h → Stands p.core h → HasMade p l h
+  made_by p l h asks stands =
+      record {
+        earlier = asks.earlier;
+        asked = asks.asked;
+        all = asks.all;
+        past = subst (λ (xs : List Exchange). AskedInTurn xs asks.earlier) (sym asks.line) asks.past;
+        asks = asks.asks;
+        quiet = asks.quiet;
+        stands = stands;
+      }
+
+  -- the connections behind any have asked for these entries too
+  abbrev AsksOn : (p : LanePeer M D gm gd) → Line → LanePeer M D gm gd → Line → History → Type 0
+  AsksOn p l q m es = (first : List Exchange) (k : History) → AsksBehind first p l k → AsksBehind first q m (k ++ es)
+
   -- a peer has gone on
-  comes_by : (p q : LanePeer M D gm gd) (l m : Line) (es : History) → Extends p.core q.core es → ((h : History) → HasMade p l h → HasMade q m (h ++ es)) → Comes p l q m
-  comes_by p q l m es extends made =
+  made_more : (p q : LanePeer M D gm gd) (l m : Line) (es h : History) → Extends p.core q.core es → ArePowered es → AsksOn p l q m es → HasMade p l h → HasMade q m (h ++ es)
+  made_more p q l m es h extends powered later made = made_by q m (h ++ es) (later [] h (asks_behind_none p l h made)) (extends_stands p.core q.core h es extends powered made.stands)
+
+  stands_more : (p q : LanePeer M D gm gd) (l m : Line) (es : History) → Extends p.core q.core es → ArePowered es → AsksOn p l q m es → (h : History) × HasMade p l h → (h : History) × HasMade q m h
+  stands_more p q l m es extends powered later was = (was.0 ++ es, made_more p q l m es was.0 extends powered later was.1)
+
+  comes_by : (p q : LanePeer M D gm gd) (l m : Line) (es : History) → Extends p.core q.core es → ArePowered es → AsksOn p l q m es → Comes p l q m
+  comes_by p q l m es extends powered later =
       record {
         ground = λ i. record { kept = extends.opening i; blocks = extends.blocks i };
         count = subst (λ (k : ℕ). min (gd.faults (disk_of p.core)) (2 ^ 64 - 1) ≤ k) (sym extends.saved) (not_fallen (failures_in es) (gd.faults (disk_of p.core)));
-        goes = λ h was. record { since = es; made = made h was; failed = extends.saved };
+        goes = λ h was. record { since = es; made = made_more p q l m es h extends powered later was; failed = extends.saved; later = later };
       }
 
   -- a new one
@@ -107,30 +133,31 @@ module _ {M D : Type 0} {gm : media.Ghosts M} {gd : disks.Ghosts D} where
       record { earlier = []; asked = []; all = refl; past = refl; asks = record { turns = 0; taken = (refl, new.reply, new.lane) }; quiet = λ e. absurd (false≢true e); stands = stands }
 
   -- bytes were heard
-  made_heard : (p q : LanePeer M D gm gd) (l : Line) (bytes : List ℕ) (h : History) → q.core ≡ p.core → lane_of q.session ≡ arrived (lane_of p.session) bytes → reply_of q.session ≡ reply_of p.session → HasMade p l h → HasMade q (hearing l bytes) (h ++ [])
-  made_heard p q l bytes h core lane reply made =
+  heard_later : (p q : LanePeer M D gm gd) (l : Line) (bytes : List ℕ) → lane_of q.session ≡ arrived (lane_of p.session) bytes → reply_of q.session ≡ reply_of p.session → AsksOn p l q (hearing l bytes) []
+  heard_later p q l bytes lane reply first k was =
       let heard : List ℕ = l.last.heard ++ bytes in
       record {
-        earlier = made.earlier;
-        asked = made.asked;
-        all = append-nil h ∙ made.all;
-        past = made.past;
+        others = was.others;
+        earlier = was.earlier;
+        asked = was.asked;
+        line = was.line;
+        all = append-nil k ∙ was.all;
+        past = was.past;
         asks =
-            subst (λ (x : Lane). AsksFor 0 heard made.asked (l.last.said ++ reply_of q.session) x) (sym lane)
-            (subst (λ (w : List ℕ). AsksFor 0 heard made.asked (l.last.said ++ w) (arrived (lane_of p.session) bytes)) (sym reply)
-            (asks_grow 0 l.last.heard bytes (l.last.said ++ reply_of p.session) made.asked (lane_of p.session) made.asks));
+            subst (λ (x : Lane). AsksFor 0 heard was.asked (l.last.said ++ reply_of q.session) x) (sym lane)
+            (subst (λ (w : List ℕ). AsksFor 0 heard was.asked (l.last.said ++ w) (arrived (lane_of p.session) bytes)) (sym reply)
+            (asks_grow 0 l.last.heard bytes (l.last.said ++ reply_of p.session) was.asked (lane_of p.session) was.asks));
         quiet = λ e. absurd (false≢true e);
-        stands = subst (λ (c : Core M D gm gd). Stands c (h ++ [])) (sym core) (subst (Stands p.core) (sym (append-nil h)) made.stands);
       }
 
   same_extends : (a b : Core M D gm gd) → b ≡ a → Extends a b []
   same_extends a b same = subst (λ (c : Core M D gm gd). Extends a c []) (sym same) (extends_none a)
 
   pub heard_stands : (p q : LanePeer M D gm gd) (l : Line) (bytes : List ℕ) → q.core ≡ p.core → lane_of q.session ≡ arrived (lane_of p.session) bytes → reply_of q.session ≡ reply_of p.session → (h : History) × HasMade p l h → (h : History) × HasMade q (hearing l bytes) h
-  heard_stands p q l bytes core lane reply was = (was.0 ++ [], made_heard p q l bytes was.0 core lane reply was.1)
+  heard_stands p q l bytes core lane reply = stands_more p q l (hearing l bytes) [] (same_extends p.core q.core core) tt (heard_later p q l bytes lane reply)
 
   pub heard_comes : (p q : LanePeer M D gm gd) (l : Line) (bytes : List ℕ) → q.core ≡ p.core → lane_of q.session ≡ arrived (lane_of p.session) bytes → reply_of q.session ≡ reply_of p.session → Comes p l q (hearing l bytes)
-  heard_comes p q l bytes core lane reply = comes_by p q l (hearing l bytes) [] (same_extends p.core q.core core) (λ h made. made_heard p q l bytes h core lane reply made)
+  heard_comes p q l bytes core lane reply = comes_by p q l (hearing l bytes) [] (same_extends p.core q.core core) tt (heard_later p q l bytes lane reply)
 
   -- so much of the reply that waited was said, which is all of it or fills the buffer; where none waited, no turn was left
   abbrev pub SaysSome : Session → LanePeer M D gm gd → ℕ → ℕ → List ℕ → Type 0
@@ -169,30 +196,31 @@ module _ {M D : Type 0} {gm : media.Ghosts M} {gd : disks.Ghosts D} where
       not_true false is = refl
 
   -- turns were taken, and some of the reply that then waited was said
-  made_said : (p q : LanePeer M D gm gd) (l : Line) (s : Session) (n size : ℕ) (buf : List ℕ) (h : History) (t : TakesTurns 0 p.core p.session q.core s) → SaysSome s q n size buf → HasMade p l h → HasMade q (saying l n size buf) (h ++ t.entries)
-  made_said p q l s n size buf h t some made =
+  said_later : (p q : LanePeer M D gm gd) (l : Line) (s : Session) (n size : ℕ) (buf : List ℕ) (t : TakesTurns 0 p.core p.session q.core s) → SaysSome s q n size buf → AsksOn p l q (saying l n size buf) t.entries
+  said_later p q l s n size buf t some first k was =
       let bytes : List ℕ = take n buf in
       let words : (l.last.said ++ reply_of p.session) ++ t.replies ≡ (l.last.said ++ bytes) ++ reply_of q.session =
       append_assoc l.last.said (reply_of p.session) t.replies ∙ ap (λ (w : List ℕ). l.last.said ++ w) (sym t.said ∙ sym (take-append-drop n (reply_of s)) ∙ ap (λ (w : List ℕ). w ++ drop n (reply_of s)) (sym some.bytes) ∙ ap (λ (w : List ℕ). bytes ++ w) (sym some.left))
       ∙ sym (append_assoc l.last.said bytes (reply_of q.session)) in
       record {
-        earlier = made.earlier;
-        asked = made.asked ++ t.entries;
-        all = ap (λ (x : History). x ++ t.entries) made.all ∙ append_assoc made.earlier made.asked t.entries;
-        past = made.past;
+        others = was.others;
+        earlier = was.earlier;
+        asked = was.asked ++ t.entries;
+        line = was.line;
+        all = ap (λ (x : History). x ++ t.entries) was.all ∙ append_assoc was.earlier was.asked t.entries;
+        past = was.past;
         asks =
-            subst (λ (x : Lane). AsksFor 0 l.last.heard (made.asked ++ t.entries) ((l.last.said ++ bytes) ++ reply_of q.session) x) (sym some.lane)
-            (subst (λ (w : List ℕ). AsksFor 0 l.last.heard (made.asked ++ t.entries) w (lane_of s)) words
-            (asks_more t.turns 0 l.last.heard (l.last.said ++ reply_of p.session) t.replies made.asked t.entries (lane_of p.session) (lane_of s) made.asks t.taken));
+            subst (λ (x : Lane). AsksFor 0 l.last.heard (was.asked ++ t.entries) ((l.last.said ++ bytes) ++ reply_of q.session) x) (sym some.lane)
+            (subst (λ (w : List ℕ). AsksFor 0 l.last.heard (was.asked ++ t.entries) w (lane_of s)) words
+            (asks_more t.turns 0 l.last.heard (l.last.said ++ reply_of p.session) t.replies was.asked t.entries (lane_of p.session) (lane_of s) was.asks t.taken));
         quiet = is_quiet s q n size buf some;
-        stands = extends_stands p.core q.core h t.entries t.extends t.powered made.stands;
       }
 
   pub said_stands : (p q : LanePeer M D gm gd) (l : Line) (s : Session) (n size : ℕ) (buf : List ℕ) → TakesTurns 0 p.core p.session q.core s → SaysSome s q n size buf → (h : History) × HasMade p l h → (h : History) × HasMade q (saying l n size buf) h
-  said_stands p q l s n size buf t some was = (was.0 ++ t.entries, made_said p q l s n size buf was.0 t some was.1)
+  said_stands p q l s n size buf t some = stands_more p q l (saying l n size buf) t.entries t.extends t.powered (said_later p q l s n size buf t some)
 
   pub said_comes : (p q : LanePeer M D gm gd) (l : Line) (s : Session) (n size : ℕ) (buf : List ℕ) → TakesTurns 0 p.core p.session q.core s → SaysSome s q n size buf → Comes p l q (saying l n size buf)
-  said_comes p q l s n size buf t some = comes_by p q l (saying l n size buf) t.entries t.extends (λ h made. made_said p q l s n size buf h t some made)
+  said_comes p q l s n size buf t some = comes_by p q l (saying l n size buf) t.entries t.extends t.powered (said_later p q l s n size buf t some)
 
   -- no reply waits, and no turn is left: all that was heard was answered
   all_answered : (q : LanePeer M D gm gd) (l : Line) (h : History) → (reply_of q.session ≡ []) × (turn (lane_of q.session) ≡ Idle) → HasMade q l h → IsAnswered l h
@@ -216,23 +244,26 @@ module _ {M D : Type 0} {gm : media.Ghosts M} {gd : disks.Ghosts D} where
   answered q l s n size buf h some none room made = all_answered q l h (silent s q n size buf some none room) made
 
   -- the connection was hung up
-  made_hung : (p q : LanePeer M D gm gd) (l : Line) (h : History) → Extends p.core q.core (closing 0 (lane_of p.session).phase) → HasTurned q.session (turned fresh []) → HasMade p l h → HasMade q (hung_up l) (h ++ closing 0 (lane_of p.session).phase)
-  made_hung p q l h extends new made =
+  hung_later : (p q : LanePeer M D gm gd) (l : Line) → HasTurned q.session (turned fresh []) → AsksOn p l q (hung_up l) (closing 0 (lane_of p.session).phase)
+  hung_later p q l new first k was =
       let ends : History = closing 0 (lane_of p.session).phase in
       record {
-        earlier = h ++ ends;
+        others = was.others ++ l.last ∷ [];
+        earlier = k ++ ends;
         asked = [];
-        all = sym (append-nil (h ++ ends));
+        line = ap (λ (xs : List Exchange). xs ++ l.last ∷ []) was.line ∙ append_assoc first was.others (l.last ∷ []);
+        all = sym (append-nil (k ++ ends));
         past =
-            subst (AskedInTurn (l.past ++ l.last ∷ [])) (sym (append_assoc made.earlier made.asked ends) ∙ ap (λ (x : History). x ++ ends) (sym made.all))
-            (asked_more l.past l.last made.earlier (made.asked ++ ends) (reply_of p.session) made.past (record { asked = made.asked; last = lane_of p.session; asks = made.asks; ends = refl }) (λ e. (made.quiet e).0));
+            subst (AskedInTurn (was.others ++ l.last ∷ [])) (sym (append_assoc was.earlier was.asked ends) ∙ ap (λ (x : History). x ++ ends) (sym was.all))
+            (asked_more was.others l.last was.earlier (was.asked ++ ends) (reply_of p.session) was.past (record { asked = was.asked; last = lane_of p.session; asks = was.asks; ends = refl }) (λ e. (was.quiet e).0));
         asks = record { turns = 0; taken = (refl, new.reply, new.lane) };
         quiet = λ e. absurd (false≢true e);
-        stands = extends_stands p.core q.core h ends extends (powered_closing 0 (lane_of p.session).phase) made.stands;
       }
 
   pub hung_stands : (p q : LanePeer M D gm gd) (l : Line) → Extends p.core q.core (closing 0 (lane_of p.session).phase) → HasTurned q.session (turned fresh []) → (h : History) × HasMade p l h → (h : History) × HasMade q (hung_up l) h
-  hung_stands p q l extends new was = (was.0 ++ closing 0 (lane_of p.session).phase, made_hung p q l was.0 extends new was.1)
+  hung_stands p q l extends new =
+      stands_more p q l (hung_up l) (closing 0 (lane_of p.session).phase) extends (powered_closing 0 (lane_of p.session).phase) (hung_later p q l new)
 
   pub hung_comes : (p q : LanePeer M D gm gd) (l : Line) → Extends p.core q.core (closing 0 (lane_of p.session).phase) → HasTurned q.session (turned fresh []) → Comes p l q (hung_up l)
-  hung_comes p q l extends new = comes_by p q l (hung_up l) (closing 0 (lane_of p.session).phase) extends (λ h made. made_hung p q l h extends new made)
+  hung_comes p q l extends new =
+      comes_by p q l (hung_up l) (closing 0 (lane_of p.session).phase) extends (powered_closing 0 (lane_of p.session).phase) (hung_later p q l new)

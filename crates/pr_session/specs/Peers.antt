@@ -53,17 +53,30 @@ module _ {M D : Type 0} {gm : media.Ghosts M} {gd : disks.Ghosts D} where
     pub quiet : l.last.quiet ≡ true → (reply_of p.session ≡ []) × (turn (lane_of p.session) ≡ Idle)
     pub stands : Stands p.core h
 
+  -- behind these connections, which were hung up, the others asked for these entries, those of the last one so far among them; where there was nothing more to say, none waits
+  pub record AsksBehind (first : List Exchange) (p : LanePeer M D gm gd) (l : Line) (k : History) : Type 0 where
+    pub others : List Exchange
+    pub earlier : History
+    pub asked : History
+    pub line : l.past ≡ first ++ others
+    pub all : k ≡ earlier ++ asked
+    pub past : AskedInTurn others earlier
+    pub asks : AsksFor peer_number l.last.heard asked (l.last.said ++ reply_of p.session) (lane_of p.session)
+    pub quiet : l.last.quiet ≡ true → (reply_of p.session ≡ []) × (turn (lane_of p.session) ≡ Idle)
+
   -- it has made entries that go on from these; since then its disk has failed once for each save that failed among the new ones
-  pub record GoesOnFrom (p q : LanePeer M D gm gd) (m : Line) (h : History) : Type 0 where
+  pub record GoesOnFrom (p : LanePeer M D gm gd) (l : Line) (q : LanePeer M D gm gd) (m : Line) (h : History) : Type 0 where
     pub since : History
     pub made : HasMade q m (h ++ since)
     pub failed : gd.faults (disk_of q.core) ≡ faults_after (failures_in since) (gd.faults (disk_of p.core))
+    -- whatever the connections behind some had asked for, they have asked for the new entries too
+    pub later : (first : List Exchange) (k : History) → AsksBehind first p l k → AsksBehind first q m (k ++ since)
 
   -- the second peer, which has heard and said so much, comes from the first: its target was opened with the same, its disk's count hasn't fallen, and whatever entries the first has made, it has gone on from them
   pub record Comes (p : LanePeer M D gm gd) (l : Line) (q : LanePeer M D gm gd) (m : Line) : Type 0 where
     pub ground : ground_in q.core ≡ ground_in p.core
     pub count : min (gd.faults (disk_of p.core)) (2 ^ 64 - 1) ≤ gd.faults (disk_of q.core)
-    pub goes : (h : History) → HasMade p l h → GoesOnFrom p q m h
+    pub goes : (h : History) → HasMade p l h → GoesOnFrom p l q m h
 
   -- coming from has no gap
   pub comes_at_once : (p : LanePeer M D gm gd) (l : Line) → Comes p l p l
@@ -71,7 +84,12 @@ module _ {M D : Type 0} {gm : media.Ghosts M} {gd : disks.Ghosts D} where
       record {
         ground = refl;
         count = least (gd.faults (disk_of p.core)) (2 ^ 64 - 1);
-        goes = λ h made. record { since = []; made = subst (HasMade p l) (sym (append-nil h)) made; failed = refl };
+        goes = λ h made. record {
+          since = [];
+          made = subst (HasMade p l) (sym (append-nil h)) made;
+          failed = refl;
+          later = λ first k asks. subst (AsksBehind first p l) (sym (append-nil k)) asks;
+        };
       }
     where
       least : (a limit : ℕ) → min a limit ≤ a
@@ -88,7 +106,7 @@ module _ {M D : Type 0} {gm : media.Ghosts M} {gd : disks.Ghosts D} where
       later : (a b c limit : ℕ) → min a limit ≤ b → min b limit ≤ c → min a limit ≤ c
       later a b c limit one two = omega (arith, one, two)
 
-      join : (h : History) (one : GoesOnFrom p q m h) → GoesOnFrom q r n (h ++ one.since) → GoesOnFrom p r n h
+      join : (h : History) (one : GoesOnFrom p l q m h) → GoesOnFrom q m r n (h ++ one.since) → GoesOnFrom p l r n h
       join h one two =
           record {
             since = one.since ++ two.since;
@@ -96,7 +114,8 @@ module _ {M D : Type 0} {gm : media.Ghosts M} {gd : disks.Ghosts D} where
             failed =
                 two.failed ∙ ap (faults_after (failures_in two.since)) one.failed ∙ sym (faults_more (failures_in one.since) (failures_in two.since) (gd.faults (disk_of p.core)))
                 ∙ ap (λ (k : ℕ). faults_after k (gd.faults (disk_of p.core))) (sym (failures-append one.since two.since));
+            later = λ start k asks. subst (AsksBehind start r n) (append_assoc k one.since two.since) (two.later start (k ++ one.since) (one.later start k asks));
           }
 
-      go_on : (h : History) → GoesOnFrom p q m h → GoesOnFrom p r n h
+      go_on : (h : History) → GoesOnFrom p l q m h → GoesOnFrom p l r n h
       go_on h one = join h one (second.goes (h ++ one.since) one.made)
