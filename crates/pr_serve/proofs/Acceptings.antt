@@ -1,5 +1,5 @@
 -- Connections taken one after another.
-use Rattle.std.proofs.Common.{◌≡◌, ℕ, ◌+◌, ◌^◌, ◌≤◌, List, [], ◌∷◌, ◌++◌, Option, Some, None, Result, Ok, Err, OnOk, IsOk, length, length-append, append-nil, append_assoc, refl, sym, ap, ◌∙◌, subst, arith}
+use Rattle.std.proofs.Common.{◌≡◌, ℕ, ◌+◌, ◌^◌, ◌≤◌, List, [], ◌∷◌, ◌++◌, Option, Some, None, Result, Ok, Err, OnOk, IfErr, IfSome, IsOk, length, length-append, append-nil, append_assoc, refl, sym, ap, ◌∙◌, subst, arith}
 use Rattle.std.proofs.lemmas.Bool.{false≢true}
 use Rattle.pr_io.specs.Told.{ToldStreams}
 use Rattle.pr_io.specs.Doors.{Takes, Counts}
@@ -10,6 +10,7 @@ use Rattle.pr_gate.specs.declared.pass.Pass.{Pass}
 use Rattle.pr_gate.specs.declared.stands.Stands as gates
 use Rattle.pr_gate.specs.Passes.{seen_of, spare_of}
 use Rattle.pr_core.specs.declared.ground.Ground.{Ground}
+use Rattle.pr_session.specs.declared.session_end.SessionEnd.{SessionEnd}
 use Rattle.pr_serve.specs.declared.connection.Begun.{Begun}
 use Rattle.pr_serve.specs.declared.sessions.Sessions.{Sessions}
 use Rattle.pr_serve.specs.Connections.{Goes, AreServed}
@@ -91,19 +92,25 @@ module _ {S K T X : Type 0} {g : gates.Ghosts T Entry Ground} (gs : sources.Ghos
   -- all were taken in, and what each session made is known
   pub serves-all : (a b : ToldDoor) (cs : List ToldStreams) (p q r z : Pass T Entry Ground g) (s t u : Sessions X (Begun S K T Entry Ground g) T Entry Ground g)
       → Accepts gs gk a b cs p q s t → TakesIn gs gk q r t u → Goes 0 r z
-      → ((first : ℕ) → Stands gs gk first [] p s)
-      → ((first : ℕ) (ds : List ToldStreams) → Stands gs gk first ds r u → AreServed first ds (seen_of z))
-      → Serves a b p z cs
-  serves-all a b cs p q r z s t u o i last new settled = record {
+      → (first : ℕ) → first + spare_of p ≡ 2 ^ 62 + 1 → (ends : List SessionEnd) → AreServed first cs ends (seen_of z)
+      → Serves a b p z cs ends
+  serves-all a b cs p q r z s t u o i last n at ends all = record {
     took = o.took;
     goes = subst (λ k. Goes k p z) (omega arith) (goes-more (length cs) 0 p r z (subst (λ k. Goes k p r) (omega arith) (goes-more (length cs) 0 p q r o.goes i.goes)) last);
-    served = λ first is. settled first cs (i.stands first cs (o.stands first [] (omega (arith, is)) (new first)));
+    served = λ first is. subst (λ m. AreServed m cs ends (seen_of z)) (omega (arith, at, is)) all;
   }
 
 -- a cause since a later count is one since an earlier count
-pub cause-since : (stop : Stop) (a b c : ℕ) → a ≤ b → IsCause stop b c → IsCause stop a c
-cause-since Door a b c le rose = omega (arith, rose)
-cause-since (Spent ticket) a b c le is = is
+pub cause-since : (stop : Stop) (IsFound : ℕ → Type 0) (a b c : ℕ) → a ≤ b → IsCause stop IsFound b c → IsCause stop IsFound a c
+cause-since Door IsFound a b c le rose = omega (arith, rose)
+cause-since (Spent ticket) IsFound a b c le is = is
+
+-- what is so of the ticket that is known is so of that for which no more are taken
+pub cause-of : (stopped : Result (Unit {0}) Stop) (spent : Option ℕ) (IsFound : ℕ → Type 0) (a b : ℕ) → IfSome spent IsFound
+    → IfErr stopped (λ stop. IsCause stop (λ ticket. spent ≡ Some ticket) a b) → IfErr stopped (λ stop. IsCause stop IsFound a b)
+cause-of (Ok u) spent IsFound a b found is = tt
+cause-of (Err Door) spent IsFound a b found is = is
+cause-of (Err (Spent ticket)) spent IsFound a b found (large, is) = (large, subst (λ o. IfSome o IsFound) is found)
 
 -- what holds where all were taken holds where that is said
 pub on-all : {X Y E F : Type 0} (r : Result X E) (t : Result Y F) (P : Type 0) → OnOk r (IsOk t) → OnOk t P → OnOk r P

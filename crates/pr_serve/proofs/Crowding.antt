@@ -1,7 +1,7 @@
 -- How the sessions of a target stand after one more began, and after some were taken in.
-use Rattle.std.proofs.Common.{◌≡◌, ◌⊎◌, inl, inr, ℕ, ◌+◌, List, [], ◌∷◌, ◌++◌, length, refl, sym, ap, ◌∙◌, subst, arith, Some, IsSome, slice_index_or, append_assoc}
+use Rattle.std.proofs.Common.{◌≡◌, ◌⊎◌, inl, inr, ℕ, ◌+◌, List, [], ◌∷◌, ◌++◌, length, refl, sym, ap, ◌∙◌, subst, arith, ◌<◌, Option, Some, None, IfSome, IsSome, slice_index_or, append_assoc}
 use Rattle.std.specs.Prelude.{remove}
-use Rattle.std.specs.List.{AllByRecursion}
+use Rattle.std.specs.List.{AllByRecursion, Contains}
 use Rattle.pr_io.specs.Told.{ToldStreams}
 use Rattle.pr_io.specs.declared.outside.Source as sources
 use Rattle.pr_io.specs.declared.outside.Sink as sinks
@@ -15,6 +15,7 @@ use Rattle.pr_gate.specs.Passes.{IsUnchanged, number_of, seen_of, retired_number
 use Rattle.pr_gate.proofs.Lists.{prefix-refl}
 use Rattle.pr_core.specs.declared.ground.Ground.{Ground}
 use Rattle.pr_session.specs.declared.session_end.SessionEnd.{SessionEnd}
+use Rattle.pr_session.specs.declared.session_end.SessionEnd.TheVariants.{Closed, Cut, Rejected, ReadFault, WriteFault, SpentFrames, SpentTicket, NoMemory}
 use Rattle.pr_session.proofs.Holdings.{prefix_trans}
 use Rattle.pr_serve.specs.declared.connection.Begun.{Begun}
 use Rattle.pr_serve.specs.declared.sessions.Sessions.{Sessions}
@@ -22,11 +23,23 @@ use mathlib.Core.List.{IsPrefix}
 use Rattle.pr_gate.specs.declared.view.Stage.TheVariants.{Idle}
 use Rattle.pr_core.specs.Shared.{IsRightOn}
 use Rattle.pr_serve.specs.Connections.{IsRightPass, IsServed, ServedBy, AreOfOne, Goes, AreServed, entries_of}
-use Rattle.pr_serve.specs.Standing.{Has, IsPast, IsSettled, HasServed, Serves, Covers, Stand}
-use Rattle.pr_serve.specs.Crowds.{pass_in, told_in, Stands, Starts, Retires, IsAsBefore, TakesIn, used_of, most_of}
+use Rattle.pr_serve.specs.Standing.{Has, HasOne, IsPast, IsSettled, HasEnded, HasServed, Serves, Covers, Stand}
+use Rattle.pr_serve.specs.Crowds.{pass_in, told_in, Stands, Starts, Retires, IsAsBefore, TakesIn, used_of, most_of, spent_after}
+use Rattle.pr_serve.specs.Accepting.{Found}
 use Rattle.pr_serve.specs.declared.sessions.Running.{Running}
-use Rattle.pr_serve.proofs.Lists.{all-front}
+use Rattle.pr_serve.proofs.Lists.{contains-front, contains-first, all-front}
 use Rattle.pr_serve.proofs.Standings.{stand-goes, stand-begins, stand-served, stand-ends}
+
+-- a ticket stays known
+spent-stays : (end : SessionEnd) (spent : Option ℕ) → IsSome spent → IsSome (spent_after end spent)
+spent-stays (SpentTicket ticket) spent is = refl
+spent-stays Closed spent is = is
+spent-stays (Cut place) spent is = is
+spent-stays (Rejected place reason) spent is = is
+spent-stays ReadFault spent is = is
+spent-stays WriteFault spent is = is
+spent-stays SpentFrames spent is = is
+spent-stays NoMemory spent is = is
 
 module _ {T : Type 0} {g : _} where
   pub goes-none : (p : Pass T Entry Ground g) → Goes 0 p p
@@ -83,80 +96,111 @@ module _ {T : Type 0} {g : _} where
     ),
   )
 
+  -- a connection was served by a pass that is retired and settled, and so by the entries of its number
+  served-once : (who : ℕ) (c : ToldStreams) (h : History) (end : SessionEnd) (rs : List (Retired T Entry Ground g)) → AllByRecursion (IsSettled h) rs → Has (HasEnded end who c) rs → IsServed c who end (entries_of who h)
+  served-once who c h end [] all is = absurd is
+  served-once who c h end (r ∷ rs) (settled, all) (inl (number, served)) = subst (λ es. IsServed c who end es) (sym (settled who number)) served
+  served-once who c h end (r ∷ rs) (settled, all) (inr more) = served-once who c h end rs all more
+
 module _ {S K T X : Type 0} {g : gates.Ghosts T Entry Ground} (gs : sources.Ghosts S) (gk : sinks.Ghosts K) where
   stands-goes : (first : ℕ) (cs : List ToldStreams) (n : ℕ) (p q : Pass T Entry Ground g) (s : Sessions X (Begun S K T Entry Ground g) T Entry Ground g) → Goes n p q → Stands gs gk first cs p s → Stands gs gk first cs q s
-  stands-goes first cs n p q s a = stand-goes (pass_in gs gk) (told_in gs gk) first cs p q s.running.items s.retired.items a.of_one a.seen
+  stands-goes first cs n p q s a = stand-goes (pass_in gs gk) (told_in gs gk) first cs p q s.running.items s.retired.items s.spent a.of_one a.seen
+
+  -- so sessions stand that have these threads, retired passes and ticket
+  stands-with : (first : ℕ) (cs : List ToldStreams) (p : Pass T Entry Ground g) (xs : List (Running X (Begun S K T Entry Ground g))) (rs : List (Retired T Entry Ground g)) (spent : Option ℕ) (s : Sessions X (Begun S K T Entry Ground g) T Entry Ground g)
+      → s.running.items ≡ xs → s.retired.items ≡ rs → s.spent ≡ spent → Stand (pass_in gs gk) (told_in gs gk) first cs p xs rs spent → Stands gs gk first cs p s
+  stands-with first cs p xs rs spent s running retired is old =
+      subst (λ o. Stand (pass_in gs gk) (told_in gs gk) first cs p s.running.items s.retired.items o) (sym is)
+      (subst (λ qs. Stand (pass_in gs gk) (told_in gs gk) first cs p s.running.items qs spent) (sym retired)
+      (subst (λ ys. Stand (pass_in gs gk) (told_in gs gk) first cs p ys rs spent) (sym running) old))
 
   -- a thread serves one connection more
   pub stands-begins : (first : ℕ) (cs : List ToldStreams) (c : ToldStreams) (n : ℕ) (p q pass : Pass T Entry Ground g) (s t : Sessions X (Begun S K T Entry Ground g) T Entry Ground g)
       → Goes n p q → AreOfOne q pass → number_of pass ≡ first + length cs → Starts gs gk c pass s t
       → Stands gs gk first cs p s → Stands gs gk first (cs ++ c ∷ []) q t
   stands-begins first cs c n p q pass s t a one number b old =
-      subst (λ rs. Stand (pass_in gs gk) (told_in gs gk) first (cs ++ c ∷ []) q t.running.items rs) (sym (ap (λ r. r.items) b.retired))
-      (subst (λ xs. Stand (pass_in gs gk) (told_in gs gk) first (cs ++ c ∷ []) q xs s.retired.items) (sym b.running)
-      (stand-begins (pass_in gs gk) (told_in gs gk) first cs c q s.running.items b.last s.retired.items
-      (subst (AreOfOne q) (sym b.pass) one) (ap number_of b.pass ∙ number) b.told (stands-goes first cs n p q s a old)))
+      stands-with first (cs ++ c ∷ []) q _ _ _ t b.running (ap (λ r. r.items) b.retired) b.spent
+      (stand-begins (pass_in gs gk) (told_in gs gk) first cs c q s.running.items b.last s.retired.items s.spent
+      (subst (AreOfOne q) (sym b.pass) one) (ap number_of b.pass ∙ number) b.told (stands-goes first cs n p q s a old))
 
   -- a connection more was served, by a pass that is retired now
   pub stands-served : {M D : Type 0} (gm : media.Ghosts M) (gd : disks.Ghosts D) (first : ℕ) (cs : List ToldStreams) (c : ToldStreams) (n : ℕ) (p q pass ended : Pass T Entry Ground g) (end : SessionEnd) (s t u : Sessions X (Begun S K T Entry Ground g) T Entry Ground g)
-      → Goes n p q → number_of pass ≡ first + length cs → ServedBy gm gd c pass ended end → IsAsBefore s t → Retires q ended t.running.items t.retired.items (used_of t) (most_of t) u
+      → Goes n p q → number_of pass ≡ first + length cs → ServedBy gm gd c pass ended end → IsAsBefore s t → Retires q ended t.running.items t.retired.items (used_of t) (most_of t) u → u.spent ≡ spent_after end t.spent
       → Stands gs gk first cs p s → Stands gs gk first (cs ++ c ∷ []) q u
-  stands-served gm gd first cs c n p q pass ended end s t u a number served same r old =
-      subst (λ rs. Stand (pass_in gs gk) (told_in gs gk) first (cs ++ c ∷ []) q u.running.items rs) (sym (r.retired_now ∙ ap (λ v. v.items ++ r.last ∷ []) same.1))
-      (subst (λ xs. Stand (pass_in gs gk) (told_in gs gk) first (cs ++ c ∷ []) q xs (s.retired.items ++ r.last ∷ [])) (sym (r.running_now ∙ same.0))
-      (stand-served (pass_in gs gk) (told_in gs gk) first cs c end q s.running.items s.retired.items r.last r.past
+  stands-served gm gd first cs c n p q pass ended end s t u a number served same r spent old =
+      stands-with first (cs ++ c ∷ []) q _ _ _ u (r.running_now ∙ same.0) (r.retired_now ∙ ap (λ v. v.items ++ r.last ∷ []) same.1) (spent ∙ ap (spent_after end) same.2)
+      (stand-served (pass_in gs gk) (told_in gs gk) first cs c end q s.running.items s.retired.items r.last s.spent r.past
       (r.number ∙ ap Some (served.same.1 ∙ number))
       (subst (λ m. IsServed c m end (retired_own r.last)) number (subst (λ es. IsServed c (number_of pass) end es) (sym r.own) served.served))
-      (stands-goes first cs n p q s a old)))
+      (stands-goes first cs n p q s a old))
 
   -- no connections yet
-  pub stands-new : (first : ℕ) (p : Pass T Entry Ground g) (s : Sessions X (Begun S K T Entry Ground g) T Entry Ground g) → s.running.items ≡ [] → s.retired.items ≡ [] → Stands gs gk first [] p s
-  stands-new first p s none past =
-      subst (λ xs. Stand (pass_in gs gk {X = X}) (told_in gs gk {X = X}) first [] p xs s.retired.items) (sym none)
-      (subst (λ rs. Stand (pass_in gs gk {X = X}) (told_in gs gk {X = X}) first [] p [] rs) (sym past) (record { threads = tt; past = tt; all = tt }))
+  pub stands-new : (first : ℕ) (p : Pass T Entry Ground g) (s : Sessions X (Begun S K T Entry Ground g) T Entry Ground g) → s.running.items ≡ [] → s.retired.items ≡ [] → s.spent ≡ None → Stands gs gk first [] p s
+  stands-new first p s none past spent =
+      stands-with first [] p [] [] None s none past spent (record { threads = tt; each = tt; past = tt; all = tt; found = tt })
 
   pub takes-none : (p : Pass T Entry Ground g) (s : Sessions X (Begun S K T Entry Ground g) T Entry Ground g) → TakesIn gs gk p p s s
-  takes-none p s = record { goes = goes-none p; used = refl; most = refl; stands = λ first cs o. o }
+  takes-none p s = record { goes = goes-none p; used = refl; most = refl; spent = λ is. is; stands = λ first cs o. o }
 
   pub takes-more : (p q r : Pass T Entry Ground g) (s t u : Sessions X (Begun S K T Entry Ground g) T Entry Ground g) → TakesIn gs gk p q s t → TakesIn gs gk q r t u → TakesIn gs gk p r s u
   takes-more p q r s t u a b = record {
     goes = goes-more 0 0 p q r a.goes b.goes;
     used = b.used ∙ a.used;
     most = b.most ∙ a.most;
+    spent = λ is. b.spent (a.spent is);
     stands = λ first cs o. b.stands first cs (a.stands first cs o);
   }
 
-  -- nobody is served any more: each connection was, by the entries of its number
-  served-all : (who : ℕ) (cs : List ToldStreams) (xs : List _) (rs : List (Retired T Entry Ground g)) (h : History) → xs ≡ [] → AllByRecursion (IsSettled h) rs → Covers (pass_in gs gk {X = X}) (told_in gs gk) who cs xs rs → AreServed who cs h
-  served-all who [] xs rs h none all covers = tt
-  served-all who (c ∷ cs) xs rs h none all (this, covers) = (by this, served-all (who + 1) cs xs rs h none all covers)
+  -- nobody is served any more: a connection that is or was has ended
+  ended-once : (who : ℕ) (c : ToldStreams) (xs : List (Running X (Begun S K T Entry Ground g))) (rs : List (Retired T Entry Ground g)) → xs ≡ [] → Has (Serves (pass_in gs gk) (told_in gs gk) who c) xs ⊎ Has (HasServed who c) rs → (end : SessionEnd) × Has (HasEnded end who c) rs
+  ended-once who c xs rs none (inl there) = absurd (subst (Has (Serves (pass_in gs gk) (told_in gs gk) who c)) none there)
+  ended-once who c xs rs none (inr here) = among rs here
     where
-      found : (qs : List (Retired T Entry Ground g)) → AllByRecursion (IsSettled h) qs → Has (HasServed who c) qs → (end : SessionEnd) × IsServed c who end (entries_of who h)
-      found [] a h = absurd h
-      found (q ∷ qs) (is, a) (inl (number, (end, served))) = (end, subst (λ es. IsServed c who end es) (sym (is who number)) served)
-      found (q ∷ qs) (is, a) (inr more) = found qs a more
+      among : (qs : List (Retired T Entry Ground g)) → Has (HasServed who c) qs → (end : SessionEnd) × Has (HasEnded end who c) qs
+      among [] h = absurd h
+      among (q ∷ qs) (inl (end, ended)) = (end, inl ended)
+      among (q ∷ qs) (inr more) = let m = among qs more in (m.0, inr m.1)
 
-      by : Has (Serves (pass_in gs gk) (told_in gs gk) who c) xs ⊎ Has (HasServed who c) rs → (end : SessionEnd) × IsServed c who end (entries_of who h)
-      by (inl there) = absurd (subst (Has (Serves (pass_in gs gk) (told_in gs gk) who c)) none there)
-      by (inr here) = found rs all here
+  -- and so each was served, by the entries of its number
+  served-all : (who : ℕ) (cs : List ToldStreams) (xs : List _) (rs : List (Retired T Entry Ground g)) (h : History) → xs ≡ [] → AllByRecursion (IsSettled h) rs → Covers (pass_in gs gk {X = X}) (told_in gs gk) who cs xs rs → (ends : List SessionEnd) × AreServed who cs ends h
+  served-all who [] xs rs h none all covers = ([], tt)
+  served-all who (c ∷ cs) xs rs h none all (this, covers) =
+      let e = ended-once who c xs rs none this in let more = served-all (who + 1) cs xs rs h none all covers in
+      (e.0 ∷ more.0, (served-once who c h e.0 rs all e.1, more.1))
 
-  pub stands-settle : (first : ℕ) (cs : List ToldStreams) (p : Pass T Entry Ground g) (s : Sessions X (Begun S K T Entry Ground g) T Entry Ground g) (h : History) → s.running.items ≡ [] → AllByRecursion (IsSettled h) s.retired.items → Stands gs gk first cs p s → AreServed first cs h
-  stands-settle first cs p s h none all old = served-all first cs s.running.items s.retired.items h none all old.all
+  -- one of them with this end
+  served-with : (end : SessionEnd) (who : ℕ) (cs : List ToldStreams) (xs : List _) (rs : List (Retired T Entry Ground g)) (h : History) → xs ≡ [] → AllByRecursion (IsSettled h) rs → Covers (pass_in gs gk {X = X}) (told_in gs gk) who cs xs rs
+      → HasOne (λ n c. Has (HasEnded end n c) rs) who cs → (ends : List SessionEnd) × AreServed who cs ends h × Contains ends end
+  served-with end who [] xs rs h none all covers one = absurd one
+  served-with end who (c ∷ cs) xs rs h none all (this, covers) (inl ended) =
+      let more = served-all (who + 1) cs xs rs h none all covers in
+      (end ∷ more.0, (served-once who c h end rs all ended, more.1), contains-first end more.0)
+  served-with end who (c ∷ cs) xs rs h none all (this, covers) (inr one) =
+      let e = ended-once who c xs rs none this in let more = served-with end (who + 1) cs xs rs h none all covers one in
+      (e.0 ∷ more.0, (served-once who c h e.0 rs all e.1, more.1), contains-front end e.0 more.0 more.2)
+
+  pub stands-settle : (first : ℕ) (cs : List ToldStreams) (p : Pass T Entry Ground g) (s : Sessions X (Begun S K T Entry Ground g) T Entry Ground g) (h : History) → s.running.items ≡ [] → AllByRecursion (IsSettled h) s.retired.items → Stands gs gk first cs p s
+      → (ends : List SessionEnd) × AreServed first cs ends h × IfSome s.spent (Found ends)
+  stands-settle first cs p s h none all old = by s.spent old.found
+    where
+      by : (spent : Option ℕ) → IfSome spent (λ ticket. HasOne (λ n c. Has (HasEnded (SpentTicket ticket) n c) s.retired.items) first cs) → (ends : List SessionEnd) × AreServed first cs ends h × IfSome spent (Found ends)
+      by None found = let made = served-all first cs s.running.items s.retired.items h none all old.all in (made.0, made.1, tt)
+      by (Some ticket) found = served-with (SpentTicket ticket) first cs s.running.items s.retired.items h none all old.all found
 
   -- a thread has ended and is taken in
   pub takes-one : {M D : Type 0} (gm : media.Ghosts M) (gd : disks.Ghosts D) (p q ended : Pass T Entry Ground g) (end : SessionEnd) (s u : Sessions X (Begun S K T Entry Ground g) T Entry Ground g) (one : Running X (Begun S K T Entry Ground g)) (k n : ℕ) (xs : List (Running X (Begun S K T Entry Ground g)))
-      → one ≡ slice_index_or s.running.items k one → xs ≡ remove s.running.items k → n + 1 ≡ used_of s
-      → ServedBy gm gd (told_in gs gk one) (pass_in gs gk one) ended end → Goes 0 p q → Retires q ended xs s.retired.items n (most_of s) u
+      → one ≡ slice_index_or s.running.items k one → k < length s.running.items → xs ≡ remove s.running.items k → n + 1 ≡ used_of s
+      → ServedBy gm gd (told_in gs gk one) (pass_in gs gk one) ended end → Goes 0 p q → Retires q ended xs s.retired.items n (most_of s) u → u.spent ≡ spent_after end s.spent
       → TakesIn gs gk p q s u
-  takes-one gm gd p q ended end s u one k n xs at removed used served goes r = record {
+  takes-one gm gd p q ended end s u one k n xs at within removed used served goes r spent = record {
     goes = goes;
     used = let a = r.used_now in omega arith;
     most = r.most_now;
+    spent = λ is. subst IsSome (sym spent) (spent-stays end s.spent is);
     stands = λ first cs old.
-        subst (λ rs. Stand (pass_in gs gk) (told_in gs gk) first cs q u.running.items rs) (sym r.retired_now)
-        (subst (λ ys. Stand (pass_in gs gk) (told_in gs gk) first cs q ys (s.retired.items ++ r.last ∷ [])) (sym (r.running_now ∙ removed))
-        (stand-ends (pass_in gs gk) (told_in gs gk) first cs end q s.running.items k one s.retired.items r.last (sym at) r.past
+        stands-with first cs q _ _ _ u (r.running_now ∙ removed) r.retired_now spent
+        (stand-ends (pass_in gs gk) (told_in gs gk) first cs end q s.running.items k one s.retired.items r.last s.spent (sym at) within r.past
         (r.number ∙ ap Some served.same.1)
         (subst (λ es. IsServed (told_in gs gk one) (number_of (pass_in gs gk one)) end es) (sym r.own) served.served)
-        (stands-goes first cs 0 p q s goes old)));
+        (stands-goes first cs 0 p q s goes old));
   }

@@ -1,8 +1,24 @@
 -- Lists some of whose elements are like this, or all.
-use Rattle.std.proofs.Common.{◌≡◌, ◌⊎◌, inl, inr, ℕ, zero, suc, ◌<◌, List, [], ◌∷◌, ◌++◌, length, subst, arith, slice_index_or}
+use Rattle.std.proofs.Common.{◌≡◌, ◌⊎◌, inl, inr, ℕ, zero, suc, ◌+◌, ◌<◌, List, [], ◌∷◌, ◌++◌, length, refl, subst, arith, slice_index_or}
 use Rattle.std.specs.Prelude.{remove}
 use Rattle.std.specs.List.{AllByRecursion}
-use Rattle.pr_serve.specs.Standing.{Has}
+use Rattle.std.specs.List.{Contains}
+use Rattle.pr_io.specs.Told.{ToldStreams}
+use Rattle.pr_serve.specs.Standing.{Has, HasOne}
+
+pub one-map : (P Q : ℕ → ToldStreams → Type 0) → ((n : ℕ) (c : ToldStreams) → P n c → Q n c) → (who : ℕ) (cs : List ToldStreams) → HasOne P who cs → HasOne Q who cs
+one-map P Q f who [] h = h
+one-map P Q f who (c ∷ cs) (inl p) = inl (f who c p)
+one-map P Q f who (c ∷ cs) (inr h) = inr (one-map P Q f (who + 1) cs h)
+
+pub one-front : (P : ℕ → ToldStreams → Type 0) (who : ℕ) (cs : List ToldStreams) (d : ToldStreams) → HasOne P who cs → HasOne P who (cs ++ d ∷ [])
+one-front P who [] d h = absurd h
+one-front P who (c ∷ cs) d (inl p) = inl p
+one-front P who (c ∷ cs) d (inr h) = inr (one-front P (who + 1) cs d h)
+
+pub one-last : (P : ℕ → ToldStreams → Type 0) (who : ℕ) (cs : List ToldStreams) (d : ToldStreams) → P (who + length cs) d → HasOne P who (cs ++ d ∷ [])
+one-last P who [] d p = inl (subst (λ n. P n d) (omega arith) p)
+one-last P who (c ∷ cs) d p = inr (one-last P (who + 1) cs d (subst (λ n. P n d) (omega arith) p))
 
 module _ {A : Type 0} where
   pub has-map : (P Q : A → Type 0) → ((x : A) → P x → Q x) → (xs : List A) → Has P xs → Has Q xs
@@ -53,3 +69,9 @@ module _ {A : Type 0} where
   all-at P [] k y is lt all = absurd (omega (arith, lt))
   all-at P (x ∷ xs) zero y is lt (p, all) = subst P is p
   all-at P (x ∷ xs) (suc k) y is lt (p, all) = all-at P xs k y is (omega (arith, lt)) all
+
+  pub contains-front : (y x : A) (xs : List A) → Contains xs y → Contains (x ∷ xs) y
+  contains-front y x xs (k, lt, is) = (suc k, omega (arith, lt), is)
+
+  pub contains-first : (x : A) (xs : List A) → Contains (x ∷ xs) x
+  contains-first x xs = (0, omega arith, refl)

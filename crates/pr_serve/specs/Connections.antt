@@ -52,7 +52,9 @@ module _ {T : Type 0} {g : _} where
 abbrev pub entries_of : ℕ → History → History
 entries_of who h = own (λ (e : Entry). e.who) who h
 
--- these connections were served, the first under this number and each further one under the next: the entries of its number are just those that it asked for
-abbrev pub AreServed : ℕ → List ToldStreams → History → Type 0
-AreServed who [] h = Unit {0}
-AreServed who (c ∷ cs) h = ((end : SessionEnd) × IsServed c who end (entries_of who h)) × AreServed (who + 1) cs h
+-- these connections were served and ended so, the first under this number and each further one under the next: the entries of its number are just those that it asked for
+abbrev pub AreServed : ℕ → List ToldStreams → List SessionEnd → History → Type 0
+AreServed who [] [] h = Unit {0}
+AreServed who [] (end ∷ ends) h = ⊥
+AreServed who (c ∷ cs) [] h = ⊥
+AreServed who (c ∷ cs) (end ∷ ends) h = IsServed c who end (entries_of who h) × AreServed (who + 1) cs ends h

@@ -1,5 +1,5 @@
 -- The sessions of a target, and the connections with which they stand (this project's own).
-use Rattle.std.specs.Prelude.{◌≡◌, ℕ, ◌+◌, List, [], ◌∷◌, ◌++◌, Some, vec_len, vec_capacity}
+use Rattle.std.specs.Prelude.{◌≡◌, ℕ, ◌+◌, List, [], ◌∷◌, ◌++◌, Option, Some, IsSome, vec_len, vec_capacity}
 use Rattle.pr_io.specs.Told.{ToldStreams, told_streams}
 use Rattle.pr_io.specs.declared.outside.Source as sources
 use Rattle.pr_io.specs.declared.outside.Sink as sinks
@@ -8,11 +8,18 @@ use Rattle.pr_gate.specs.declared.pass.Pass.{Pass}
 use Rattle.pr_gate.specs.declared.pass.Retired.{Retired}
 use Rattle.pr_gate.specs.Passes.{number_of, own_of, retired_number, retired_own}
 use Rattle.pr_core.specs.declared.ground.Ground.{Ground}
+use Rattle.pr_session.specs.declared.session_end.SessionEnd.{SessionEnd}
+use Rattle.pr_session.specs.declared.session_end.SessionEnd.TheVariants.{SpentTicket}
 use Rattle.pr_serve.specs.declared.connection.Begun.{Begun}
 use Rattle.pr_serve.specs.declared.sessions.Running.{Running}
 use Rattle.pr_serve.specs.declared.sessions.Sessions.{Sessions}
 use Rattle.pr_serve.specs.Connections.{Goes}
 use Rattle.pr_serve.specs.Standing.{Stand, IsPast}
+
+-- the ticket that the gate didn't give, as it was known before, after a session that ended so
+abbrev pub spent_after : SessionEnd → Option ℕ → Option ℕ
+spent_after (SpentTicket ticket) spent = Some ticket
+spent_after _ spent = spent
 
 module _ {X P T E G : Type 0} {g : _} where
   -- how many sessions there were so far, and how many there may be
@@ -57,11 +64,12 @@ module _ {S K T : Type 0} {g : _} (gs : sources.Ghosts S) (gk : sinks.Ghosts K) 
 
   -- so the sessions stand with these connections, the first under this number, and with the pass that has seen all that they had
   abbrev pub Stands : {X : Type 0} → ℕ → List ToldStreams → Pass T Entry Ground g → Sessions X (Begun S K T Entry Ground g) T Entry Ground g → Type 0
-  Stands first cs main s = Stand pass_in told_in first cs main s.running.items s.retired.items
+  Stands first cs main s = Stand pass_in told_in first cs main s.running.items s.retired.items s.spent
 
   -- some sessions may have been taken in, and each connection is served or was as before: p and q are the pass that has seen all that they had
   pub record TakesIn {X : Type 0} (p q : Pass T Entry Ground g) (s t : Sessions X (Begun S K T Entry Ground g) T Entry Ground g) : Type 0 where
     pub goes : Goes 0 p q
     pub used : used_of t ≡ used_of s
     pub most : most_of t ≡ most_of s
+    pub spent : IsSome s.spent → IsSome t.spent
     pub stands : (first : ℕ) (cs : List ToldStreams) → Stands first cs p s → Stands first cs q t

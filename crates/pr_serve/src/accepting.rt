@@ -1,12 +1,13 @@
 //! Connections taken at a door, and served with a target in a gate until all have ended.
 
-ghost use Rattle.std.specs.Prelude.{◌≡◌, ◌<◌, ◌≤◌, ◌+◌, ◌^◌, ℕ, List, [], ◌∷◌, IfErr, IfSome, IsOk, OnOk, OnErr, length};
+ghost use Rattle.std.specs.Prelude.{◌≡◌, ◌<◌, ◌≤◌, ◌+◌, ◌^◌, ℕ, List, [], ◌∷◌, Option, Some, None, IfErr, IfSome, IsSome, IsOk, OnOk, OnErr, length};
 ghost use Rattle.pr_io.specs.Told.{ToldStreams};
 ghost use Rattle.pr_model.specs.Lanes.{fresh, turned};
 ghost use Rattle.pr_gate.specs.Passes.{IsOf, spare_of};
+ghost use Rattle.pr_session.specs.declared.session_end.SessionEnd.{SessionEnd};
 ghost use Rattle.pr_serve.specs.Connections.{IsRightPass};
 ghost use Rattle.pr_serve.specs.Crowds.{used_of, most_of, Stands};
-ghost use Rattle.pr_serve.specs.Accepting.{told_door, Accepts, Serves, IsCause};
+ghost use Rattle.pr_serve.specs.Accepting.{told_door, Accepts, Serves, IsCause, Found};
 
 use crate::attending::{begin, settle, take_in_all, take_in_ended};
 use crate::sessions::SessionsOver;
@@ -55,7 +56,8 @@ where
         (told_door (A.waiting door.old) (A.taken door.old))
         (told_door (A.waiting door.new) (A.taken door.new)) [] main.old main.new
         sessions.old sessions.new) }
-    ensures cause { IfErr result (λ stop. IsCause stop (A.faults door.old) (A.faults door.new)) }
+    ensures cause { IfErr result (λ stop. IsCause stop
+        (λ ticket. sessions.new.spent ≡ Some ticket) (A.faults door.old) (A.faults door.new)) }
     ensures later { A.faults door.old ≤ A.faults door.new }
 {
     take_in_ended(sessions, rt, gate, main);
@@ -105,7 +107,8 @@ where
         × Accepts A.In.Source A.Out.Sink (told_door (A.waiting door.old) (A.taken door.old))
         (told_door (A.waiting door.new) (A.taken door.new)) more main.old main.new
         sessions.old sessions.new }
-    ensures cause { IfErr result (λ stop. IsCause stop (A.faults door.old) (A.faults door.new)) }
+    ensures cause { IfErr result (λ stop. IsCause stop
+        (λ ticket. sessions.new.spent ≡ Some ticket) (A.faults door.old) (A.faults door.new)) }
 {
     let mut taken = 0;
     while taken < many {
@@ -121,8 +124,9 @@ where
 fn unless_spent(taken: Result<(), Stop>, spent: Option<u64>) -> Result<(), Stop>
     requires { IfSome spent (λ ticket. 2 ^ 62 ≤ ticket) }
     ensures all { OnOk result (IsOk taken) }
-    ensures cause { (before now : ℕ) → IfErr taken (λ stop. IsCause stop before now)
-        → IfErr result (λ stop. IsCause stop before now) }
+    ensures cause { (before now : ℕ) (earlier : Option ℕ) → (IsSome earlier → IsSome spent)
+        → IfErr taken (λ stop. IsCause stop (λ ticket. earlier ≡ Some ticket) before now)
+        → IfErr result (λ stop. IsCause stop (λ ticket. spent ≡ Some ticket) before now) }
 {
     match spent {
         Some(ticket) => Err(Stop::Spent(ticket)),
@@ -152,13 +156,16 @@ where
     requires spare { many ≤ spare_of main }
     requires few { spare_of main ≤ 2 ^ 62 }
     requires right { IsRightPass M.Medium D.Disk main }
-    requires none { (sessions.running.items ≡ []) × (sessions.retired.items ≡ []) }
+    requires none { (sessions.running.items ≡ []) × (sessions.retired.items ≡ [])
+        × (sessions.spent ≡ None) }
     requires room { used_of sessions + many ≤ most_of sessions }
     ensures right { IsRightPass M.Medium D.Disk result.1 }
-    ensures serves { (cs : List ToldStreams) × OnOk result.2 (length cs ≡ many)
+    ensures serves { (cs : List ToldStreams) × (ends : List SessionEnd)
+        × OnOk result.2 (length cs ≡ many)
         × Serves (told_door (A.waiting door) (A.taken door))
-        (told_door (A.waiting result.0) (A.taken result.0)) main result.1 cs }
-    ensures cause { IfErr result.2 (λ stop. IsCause stop (A.faults door) (A.faults result.0)) }
+        (told_door (A.waiting result.0) (A.taken result.0)) main result.1 cs ends
+        × IfErr result.2 (λ stop. IsCause stop (Found ends) (A.faults door)
+        (A.faults result.0)) }
 {
     let taken = accept_all(
         scope,
@@ -195,13 +202,16 @@ where
     requires spare { many ≤ spare_of main }
     requires few { spare_of main ≤ 2 ^ 62 }
     requires right { IsRightPass M.Medium D.Disk main }
-    requires none { (sessions.running.items ≡ []) × (sessions.retired.items ≡ []) }
+    requires none { (sessions.running.items ≡ []) × (sessions.retired.items ≡ [])
+        × (sessions.spent ≡ None) }
     requires room { used_of sessions + many ≤ most_of sessions }
     ensures right { IsRightPass M.Medium D.Disk result.1 }
-    ensures serves { (cs : List ToldStreams) × OnOk result.2 (length cs ≡ many)
+    ensures serves { (cs : List ToldStreams) × (ends : List SessionEnd)
+        × OnOk result.2 (length cs ≡ many)
         × Serves (told_door (A.waiting door) (A.taken door))
-        (told_door (A.waiting result.0) (A.taken result.0)) main result.1 cs }
-    ensures cause { IfErr result.2 (λ stop. IsCause stop (A.faults door) (A.faults result.0)) }
+        (told_door (A.waiting result.0) (A.taken result.0)) main result.1 cs ends
+        × IfErr result.2 (λ stop. IsCause stop (Found ends) (A.faults door)
+        (A.faults result.0)) }
 {
     thread::scope(
         thread::scope_env(),
@@ -209,13 +219,15 @@ where
         move |scope| -> (A, Pass<Core<M, D>>, Result<(), Stop>)
             requires { IsOf gate.now main × (many ≤ spare_of main) × (spare_of main ≤ 2 ^ 62)
                 × IsRightPass M.Medium D.Disk main
-                × ((sessions.running.items ≡ []) × (sessions.retired.items ≡ []))
+                × ((sessions.running.items ≡ []) × (sessions.retired.items ≡ [])
+                × (sessions.spent ≡ None))
                 × (used_of sessions + many ≤ most_of sessions) }
             ensures right { IsRightPass M.Medium D.Disk result.1 }
-            ensures serves { (cs : List ToldStreams) × OnOk result.2 (length cs ≡ many)
+            ensures serves { (cs : List ToldStreams) × (ends : List SessionEnd)
+                × OnOk result.2 (length cs ≡ many)
                 × Serves (told_door (A.waiting door) (A.taken door))
-                (told_door (A.waiting result.0) (A.taken result.0)) main result.1 cs }
-            ensures cause { IfErr result.2 (λ stop. IsCause stop (A.faults door)
+                (told_door (A.waiting result.0) (A.taken result.0)) main result.1 cs ends
+                × IfErr result.2 (λ stop. IsCause stop (Found ends) (A.faults door)
                 (A.faults result.0)) }
         { serve_in(scope, rt, gate, door, main, spare, sessions, many) },
     )

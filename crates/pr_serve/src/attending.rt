@@ -1,14 +1,16 @@
 //! What is done with sessions: one more begins, and those that have ended are taken in.
 
-ghost use Rattle.std.specs.Prelude.{◌≡◌, ◌<◌, ◌≤◌, ◌+◌, ◌^◌, ℕ, List, [], ◌∷◌, ◌++◌, Some, IfOk, IfErr, IfSome, IfNone, length, vec_len, vec_capacity};
+ghost use Rattle.std.specs.Prelude.{◌≡◌, ◌<◌, ◌≤◌, ◌+◌, ◌^◌, ℕ, List, [], ◌∷◌, ◌++◌, Some, None, IfOk, IfErr, IfSome, IfNone, length, vec_len, vec_capacity};
 ghost use Rattle.pr_io.specs.Told.{ToldStreams, told_streams};
 ghost use Rattle.pr_model.specs.Lanes.{fresh, turned};
 ghost use Rattle.pr_gate.specs.Passes.{IsOf, IsFree, IsUnchanged, own_of, spare_of, seen_of};
 ghost use Rattle.pr_session.specs.Sessions.{HasTurned};
+ghost use Rattle.pr_session.specs.declared.session_end.SessionEnd.{SessionEnd};
 ghost use Rattle.pr_session.specs.declared.session_end.SessionEnd.TheVariants.{SpentTicket};
 ghost use Rattle.pr_serve.specs.Connections.{ServedBy, IsRightPass, AreOfOne, Goes, AreServed};
-ghost use Rattle.pr_serve.specs.Crowds.{used_of, most_of, IsAsBefore, Retires, Stands, Starts, TakesIn};
+ghost use Rattle.pr_serve.specs.Crowds.{used_of, most_of, spent_after, IsAsBefore, Retires, Stands, Starts, TakesIn};
 ghost use Rattle.pr_serve.specs.Standing.{IsPast, IsSettled};
+ghost use Rattle.pr_serve.specs.Accepting.{Found};
 ghost use Rattle.std.specs.List.{AllByRecursion};
 
 use crate::connection::{Begun, Ended, serve_one, start};
@@ -27,7 +29,8 @@ pub(crate) fn no_sessions<S: Source + Drop, K: Sink + Drop, M: Medium, D: Disk>(
     alloc: Global,
     most: usize,
 ) -> Result<SessionsOver<S, K, M, D>, AllocError>
-    ensures none { IfOk result (λ s. (s.running.items ≡ []) × (s.retired.items ≡ [])) }
+    ensures none { IfOk result (λ s. (s.running.items ≡ []) × (s.retired.items ≡ [])
+        × (s.spent ≡ None)) }
     ensures room { IfOk result (λ s. (used_of s ≡ 0) × (most_of s ≡ most)) }
 {
     Ok(Sessions {
@@ -70,6 +73,7 @@ fn retire<S: Source, K: Sink, M: Medium, D: Disk>(
     ensures right { IsRightPass M.Medium D.Disk main.new }
     ensures retires { Retires main.new ended.pass sessions.old.running.items
         sessions.old.retired.items (used_of sessions.old) (most_of sessions.old) sessions.new }
+    ensures spent { sessions.new.spent ≡ spent_after ended.end sessions.old.spent }
 {
     let Ended { mut pass, end } = ended;
     if let SessionEnd::SpentTicket { ticket } = end {
@@ -267,7 +271,8 @@ pub(crate) fn settle<S: Source + Drop, K: Sink + Drop, M: Medium + Drop, D: Disk
     ensures same { IsUnchanged main.old main.new }
     ensures served { (first : ℕ) (cs : List ToldStreams)
         → Stands S.Source K.Sink first cs main.old sessions
-        → AreServed first cs (seen_of main.new) }
+        → (ends : List SessionEnd) × AreServed first cs ends (seen_of main.new)
+        × IfSome sessions.spent (Found ends) }
 {
     let Sessions {
         alloc: _,

@@ -3,8 +3,9 @@
 ghost use Rattle.std.specs.Prelude.{◌≡◌, ◌≤◌, ℕ, List, OnOk, IfErr, length};
 ghost use Rattle.pr_io.specs.Told.{ToldStreams, told_sink};
 ghost use Rattle.pr_gate.specs.Passes.{IsOf, IsFree, spare_of, seen_of};
+ghost use Rattle.pr_session.specs.declared.session_end.SessionEnd.{SessionEnd};
 ghost use Rattle.pr_serve.specs.Connections.{IsRightPass};
-ghost use Rattle.pr_serve.specs.Accepting.{told_door, asked, Serves, EndsSo, IsCause};
+ghost use Rattle.pr_serve.specs.Accepting.{told_door, asked, Serves, EndsSo, IsCause, Found};
 
 use crate::accepting::serve_all;
 use crate::attending::no_sessions;
@@ -31,9 +32,10 @@ fn most(accept: Option<u64>) -> u64
 
 /// Says how many turns the target has done, where all connections were taken.
 fn tell<K: Sink>(sink: &mut K, stopped: Result<(), Stop>, turns: u64) -> ServeExit
-    ensures ends { (many taken faults faults_now : ℕ) → OnOk stopped (taken ≡ many)
-        → IfErr stopped (λ stop. IsCause stop faults faults_now)
-        → EndsSo result many taken faults faults_now (told_sink K.Sink sink.old)
+    ensures ends { (many taken : ℕ) (ends : List SessionEnd) (faults faults_now : ℕ)
+        → OnOk stopped (taken ≡ many)
+        → IfErr stopped (λ stop. IsCause stop (Found ends) faults faults_now)
+        → EndsSo result many taken ends faults faults_now (told_sink K.Sink sink.old)
         (told_sink K.Sink sink.new) turns }
 {
     match stopped {
@@ -75,10 +77,10 @@ where
     requires right { IsRightPass M.Medium D.Disk pass }
     ensures gate { IsOf gate.now result.2 × IsFree result.2 }
     ensures right { IsRightPass M.Medium D.Disk result.2 }
-    ensures serves { (cs : List ToldStreams)
+    ensures serves { (cs : List ToldStreams) × (ends : List SessionEnd)
         × Serves (told_door (A.waiting door) (A.taken door))
-        (told_door (A.waiting result.1) (A.taken result.1)) pass result.2 cs
-        × EndsSo result.0 (asked accept) (length cs) (A.faults door) (A.faults result.1)
+        (told_door (A.waiting result.1) (A.taken result.1)) pass result.2 cs ends
+        × EndsSo result.0 (asked accept) (length cs) ends (A.faults door) (A.faults result.1)
         (told_sink K.Sink sink.old) (told_sink K.Sink sink.new) (length (seen_of result.2)) }
 {
     let many = most(accept);

@@ -1,6 +1,16 @@
-use Rattle.std.proofs.Common.{rules, ◌++◌, ◌∷◌, [], arith, length-append}
-use Rattle.pr_serve.proofs.Acceptings.{accepts-more, cause-since}
+use Rattle.std.proofs.Common.{rules, ◌++◌, ◌∷◌, [], refl, arith, length-append}
+use Rattle.pr_serve.proofs.Crowding.{takes-none}
+use Rattle.pr_serve.proofs.Acceptings.{took-none, accepts-none, accepts-more, cause-since}
 use Rattle.pr_serve.proofs.accepting.accept_all.Goals as goal
+
+pub loop-taken-init : goal.loop-taken-init
+loop-taken-init g c = (
+  search rules,
+  c.requires.right,
+  search rules,
+  search rules,
+  ([], refl, accepts-none g.A.In.Source g.A.Out.Sink _ _ _ _ _ _ (took-none _) (takes-none g.A.In.Source g.A.Out.Sink _ _)),
+)
 
 pub accept_one-requires-clause-stands : goal.accept_one-requires-clause-stands
 accept_one-requires-clause-stands g c κs within =
@@ -16,7 +26,7 @@ returns-in-Err-clause-took g c =
     )
 
 pub returns-in-Err-clause-cause : goal.returns-in-Err-clause-cause
-returns-in-Err-clause-cause g c = cause-since _ _ _ _ c.loop-taken.invariant.3 c.in-Err.ensures.cause
+returns-in-Err-clause-cause g c = cause-since _ _ _ _ _ c.loop-taken.invariant.3 c.in-Err.ensures.cause
 
 pub loop-taken-preserved : goal.loop-taken-preserved
 loop-taken-preserved g c =
