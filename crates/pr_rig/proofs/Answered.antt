@@ -61,7 +61,7 @@ same_told s told is = ap in_of is
 abbrev pub keys_cdb : List ℕ
 keys_cdb = spelled_cdb (plain_cdb (ReserveIn 0 65535))
 
-keys_length : (s : Standing) → length s.pairs ≤ LIMIT → length (keys_reply s) ≤ 65535
+pub keys_length : (s : Standing) → length s.pairs ≤ LIMIT → length (keys_reply s) ≤ 65535
 keys_length s few = let h = length_pieces key_bytes 8 (λ p. refl) s.pairs in omega (arith, h, few)
 
 -- a reply is read, whatever its numbers are

@@ -1,13 +1,12 @@
 -- Behind a run of off that is Done, the victim's key is gone from each device that was named.
-use Rattle.std.proofs.Common.{◌≡◌, ℕ, ◌<◌, ◌^◌, ◌==◌, Bool, true, false, List, [], ◌∷◌, ◌++◌, length, map, Option, Some, None, refl, sym, ap, ◌∙◌, subst, append_assoc, append-nil}
-use Rattle.std.specs.Prelude.{slice_get, if◌then◌else◌}
+use Rattle.std.proofs.Common.{◌≡◌, ℕ, ◌<◌, ◌^◌, ◌==◌, Bool, true, false, List, [], ◌∷◌, ◌++◌, map, Option, Some, None, refl, sym, ap, ◌∙◌, subst, append_assoc, append-nil}
+use Rattle.std.specs.Prelude.{if◌then◌else◌}
 use Rattle.std.specs.List.{AllByRecursion, filter}
 use Rattle.std.specs.String.{string_bytes}
 use Rattle.std.proofs.lemmas.Bool.{eq-eqb}
 use Rattle.std.proofs.lemmas.List.{map-append}
 use Rattle.std.proofs.lemmas.List.Elements.{filter-append}
 use Rattle.pr_words.specs.declared.nexus.Key.{Key}
-use Rattle.pr_grammar.specs.Standings.{Standing}
 use Rattle.pr_model.specs.Entries.{History}
 use Rattle.pr_model.specs.Histories.{IsLegalFrom, after}
 use Rattle.pr_model.specs.Sessions.{AsksFor}
@@ -127,7 +126,7 @@ module _ {M D : Type 0} {gm : media.Ghosts M} {gd : disks.Ghosts D} where
         let same : some.talk ≡ talk_of w.earlier.items w.current = cc in
         let is : connections (talk_of w.earlier.items w.current) ≡ connections t ++ some.more = ap connections (sym same) ∙ some.all in
         let told : map told_of (w.earlier.items ++ standing w.current) ≡ connections t ++ some.more = sym (connections_told w.earlier.items w.current) ∙ is in
-        let cut : Split (w.earlier.items ++ standing w.current) some.more = split (w.earlier.items ++ standing w.current) (connections t) some.more told in
+        let cut : Split (w.earlier.items ++ standing w.current) (connections t) some.more = split (w.earlier.items ++ standing w.current) (connections t) some.more told in
         fenced_all wanted.addresses cut.before cut.behind cut.all (each_told (Convinces victim) cut.behind some.more cut.told some.convince) (names cut.behind some.more cut.told ∙ some.named)
       where
         names : (rs : List Recorded) (ds : List Connection) → map told_of rs ≡ ds → map (λ (r : Recorded). string_bytes r.address) rs ≡ map (λ (d : Connection). d.address) ds

@@ -1,8 +1,7 @@
 -- What a reply that was heard tells of the outcome that it was made of.
-use Rattle.std.proofs.Common.{◌≡◌, ℕ, ◌-◌, ◌==◌, ◌≤◌, ◌<◌, ◌^◌, ⊎_elim, ◌&&◌, Bool, true, false, List, [], ◌∷◌, ◌++◌, length, take, drop, Option, Some, None, refl, sym, ap, ◌∙◌, subst, arith}
+use Rattle.std.proofs.Common.{◌≡◌, ℕ, ◌-◌, ◌==◌, ◌≤◌, ⊎_elim, Bool, true, false, List, [], ◌++◌, length, Option, Some, None, refl, sym, ap, ◌∙◌, subst, arith}
 use Rattle.std.specs.Prelude.{Result, Ok, Err, slice_range, if◌then◌else◌}
 use Rattle.std.proofs.lemmas.Bool.{eq-eqb}
-use Rattle.std.proofs.lemmas.List.{length-take}
 use Rattle.pr_words.specs.declared.limits.TheConstants.{DATA}
 use Rattle.pr_words.specs.declared.nexus.Nexus.{Nexus}
 use Rattle.pr_words.specs.declared.nexus.Side.TheVariants.{Initiator}
@@ -23,12 +22,12 @@ use Rattle.pr_model.specs.Worlds.{World}
 use Rattle.pr_model.proofs.Checked.{answer_fits, reported}
 use Rattle.pr_link.specs.declared.reply.Reply.{Reply}
 use Rattle.pr_link.specs.declared.reply.Reply.TheVariants as reply
-use Rattle.pr_link.specs.Replies.{checked_by, command_reply_of, reply_of}
+use Rattle.pr_link.specs.Replies.{checked_by}
 use Rattle.pr_initiator.specs.declared.answer.Answer as answers
 use Rattle.pr_initiator.specs.declared.link_fault.LinkFault.{LinkFault}
 use Rattle.pr_initiator.specs.declared.link_fault.LinkFault.TheVariants as fault
 use Rattle.pr_initiator.specs.Calls.{answer_by, login_by}
-use Rattle.pr_initiator.specs.Judging.{is_no_memory, judged, judged_reply}
+use Rattle.pr_initiator.specs.Judging.{judged, judged_reply}
 use Rattle.pr_initiator.specs.Links.{data_in_by}
 
 -- what was heard first is what was said first

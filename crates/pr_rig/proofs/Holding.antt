@@ -41,7 +41,7 @@ part_length pairs None holder = omega arith
 part_length pairs (Some kind) None = omega arith
 part_length pairs (Some kind) (Some holder) = omega arith
 
-reply_length : (s : Standing) → length (reservation_reply s) ≤ 65535
+pub reply_length : (s : Standing) → length (reservation_reply s) ≤ 65535
 reply_length s = let h = part_length s.pairs (kind_of s.reservation) (holder_of s.reservation) in omega (arith, h)
 
 -- where none is held, none is read, whatever the generation is

@@ -1,16 +1,14 @@
 -- The last connection of a device, and the last entries that it made.
-use Rattle.std.proofs.Common.{◌≡◌, ◌⊎◌, inl, inr, ℕ, zero, suc, ◌==◌, Bool, true, false, List, [], ◌∷◌, ◌++◌, length, map, Option, Some, None, refl, sym, ap, ◌∙◌, subst, append_assoc, append-nil, arith}
-use Rattle.std.specs.Prelude.{slice_get}
+use Rattle.std.proofs.Common.{◌≡◌, ◌⊎◌, inl, inr, ℕ, zero, suc, Bool, true, false, List, [], ◌∷◌, ◌++◌, refl, sym, ap, ◌∙◌, subst, append_assoc, append-nil}
 use Rattle.std.specs.List.{AllByRecursion, filter}
 use Rattle.std.proofs.lemmas.List.Elements.{filter-append}
 use Rattle.pr_words.specs.declared.limits.TheConstants.{LIMIT}
 use Rattle.pr_words.specs.declared.nexus.Key.{Key}
-use Rattle.pr_words.specs.declared.nexus.Nexus.{Nexus}
 use Rattle.pr_words.specs.declared.nexus.Side.TheVariants.{Target}
 use Rattle.pr_grammar.specs.Frames.{Front, Lacking, Broken, Whole, front}
-use Rattle.pr_model.specs.Entries.{Entry, History, Left, Logout, entry}
+use Rattle.pr_model.specs.Entries.{History}
 use Rattle.pr_model.specs.Histories.{IsLegalFrom, after, moved}
-use Rattle.pr_model.specs.Lanes.{Busy, Dead, Fresh, Idle, In, Job, Lane, Phase, Turn, turn_at}
+use Rattle.pr_model.specs.Lanes.{Busy, Dead, Fresh, Idle, In, Lane, Phase, Turn, turn_at}
 use Rattle.pr_model.specs.Runs.{Makes, closing}
 use Rattle.pr_model.specs.Sessions.{AreTurns, AsksFor, IsCutShort, connection}
 use Rattle.pr_model.specs.Worlds.{World}
@@ -20,13 +18,13 @@ use Rattle.pr_model.proofs.WellFormed.{well_formed}
 use Rattle.pr_model.specs.Registrants.{IsWellFormed}
 use Rattle.pr_io.specs.Lines.{Exchange, Line}
 use Rattle.pr_session.specs.Peers.{AskedInTurn, peer_number}
-use Rattle.pr_rig.proofs.Ousting.{Ousted}
+use Rattle.pr_rig.proofs.Ousting.{Ousted, Ousts}
 use Rattle.pr_rig.proofs.Passing.{Formed}
-use Rattle.pr_rig.proofs.Turning.{Leads}
+use Rattle.pr_rig.proofs.Turning.{AllFollow, Leads}
 
 -- Entries
 
-formed_after : (w : World) (h k : History) → IsLegalFrom w (h ++ k) → Formed w → Formed (after w h)
+pub formed_after : (w : World) (h k : History) → IsLegalFrom w (h ++ k) → Formed w → Formed (after w h)
 formed_after w h k legal formed = history_keeps (IsWellFormed LIMIT) (well_formed LIMIT) (λ s well. well) w h k legal formed
 
 -- the last of the connections that were hung up
@@ -53,7 +51,7 @@ nothing_there : front Target [] ≡ Lacking 4
 unfolding front
 nothing_there = refl
 
-nothing_asked : (k : ℕ) (es : History) (replies : List ℕ) (m : Lane) → AreTurns k peer_number (connection []) es replies m → es ≡ []
+pub nothing_asked : (k : ℕ) (es : History) (replies : List ℕ) (m : Lane) → AreTurns k peer_number (connection []) es replies m → es ≡ []
 nothing_asked zero es replies m turns = turns.0
 nothing_asked (suc k) es replies m (first, reply, mid, rest, others, made, more, all, said) =
     let makes : Makes peer_number (connection []) Idle first reply mid = subst (λ (t : Turn). Makes peer_number (connection []) t first reply mid) (idle_fresh (front Target []) nothing_there) made in
@@ -73,14 +71,19 @@ closed victim w Dead ousted = ousted
 
 -- from a world on, a connection that was answered so asked for these entries
 abbrev pub Convinced : Key → List ℕ → List ℕ → Type 0
-Convinced victim sent received = (w : World) (lost : List ℕ) → Formed w → Leads (Ousted victim) w (connection sent) (received ++ lost)
+Convinced victim sent received = (w : World) (lost : List ℕ) → Formed w → Leads (Ousts victim) w (connection sent) (received ++ lost)
+
+-- legal entries follow one another
+all_may : (victim : Key) (w : World) (h : History) → IsLegalFrom w h → AllFollow (Ousts victim) w h
+all_may victim w [] legal = tt
+all_may victim w (e ∷ h) legal = (legal.0, all_may victim (moved w e) h legal.1)
 
 -- the connection that stands is one that convinces
 pub by_current : (victim : Key) (w : World) (l : Line) (earlier asked : History) (more : List ℕ) (last : Lane) → Convinced victim l.last.heard l.last.said → Formed w → IsLegalFrom w (earlier ++ asked)
     → AsksFor peer_number l.last.heard asked (l.last.said ++ more) last → Ousted victim (after w (earlier ++ asked))
 by_current victim w l earlier asked more last convinced formed legal asks =
     subst (λ (v : World). Ousted victim v) (sym (after-append w earlier asked))
-    (convinced (after w earlier) more (formed_after w earlier asked legal formed) asks.turns asked last asks.taken (legal_behind w earlier asked legal))
+    (convinced (after w earlier) more (formed_after w earlier asked legal formed) asks.turns asked last asks.taken (all_may victim (after w earlier) asked (legal_behind w earlier asked legal)))
 
 -- the last that was hung up is one that convinces, and on the next one nothing was heard
 pub by_past : (victim : Key) (w : World) (ys : List Exchange) (x : Exchange) (earlier asked : History) (replies : List ℕ) (last : Lane) → Convinced victim x.heard x.said → Formed w → IsLegalFrom w (earlier ++ asked)
@@ -95,7 +98,7 @@ by_past victim w ys x earlier asked replies last convinced formed legal past ask
     let behind : IsLegalFrom v (la.cut.asked ++ closing peer_number la.cut.last.phase) = legal_behind w la.before (la.cut.asked ++ closing peer_number la.cut.last.phase) right in
     let gone : Ousted victim (after v la.cut.asked) =
     convinced v la.lost (formed_after w la.before (la.cut.asked ++ closing peer_number la.cut.last.phase) right formed) la.cut.asks.turns la.cut.asked la.cut.last la.cut.asks.taken
-    (legal_first v la.cut.asked (closing peer_number la.cut.last.phase) behind) in
+    (all_may victim v la.cut.asked (legal_first v la.cut.asked (closing peer_number la.cut.last.phase) behind)) in
     let shut : Ousted victim (after v (la.cut.asked ++ closing peer_number la.cut.last.phase)) =
     subst (λ (u : World). Ousted victim u) (sym (after-append v la.cut.asked (closing peer_number la.cut.last.phase))) (closed victim (after v la.cut.asked) la.cut.last.phase gone) in
     subst (λ (u : World). Ousted victim u) (sym (ap (after w) cut ∙ after-append w la.before (la.cut.asked ++ closing peer_number la.cut.last.phase))) shut

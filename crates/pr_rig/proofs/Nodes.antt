@@ -8,6 +8,8 @@ use Rattle.md5.specs.Md5.{md5, digest_bytes}
 use Rattle.pr_words.specs.declared.nexus.Key.{Key}
 use Rattle.pr_fence.specs.declared.plan.Errand.TheVariants as errand
 use Rattle.pr_fence.specs.Keys.{read_as_hexadecimal, key_of}
+use Rattle.pr_numbers.specs.Numbers.{hex_in}
+use Rattle.pr_rig.proofs.Names.{hex_small}
 use Rattle.pr_fence.specs.Words.{Text, Wanted, Start, FenceOff, value_in, verb_in, within_nodes, node_in, start_by, taken, start_in, task_in, end_in, wanted_doing, wanted_from, wanted_by}
 
 -- Keys
@@ -58,6 +60,18 @@ node_small (Some m) n is = by (nat_le 1 m) (nat_le m 9999) refl is
     by true false few same = absurd cc
     by false few is_few same = absurd cc
 
+node_least : (o : Option ℕ) (n : ℕ) → within_nodes o ≡ Some n → 1 ≤ n
+node_least None n is = absurd cc
+node_least (Some m) n is = by (nat_le 1 m) (nat_le m 9999) refl is
+  where
+    by : (some few : Bool) → nat_le 1 m ≡ some → (if some && few then Some m else None) ≡ Some n → 1 ≤ n
+    by true true least same = let is_m : m ≡ n = cc in subst (λ (k : ℕ). 1 ≤ k) is_m (leb-true 1 m least)
+    by true false least same = absurd cc
+    by false few least same = absurd cc
+
+node_some : (text : Text) (n : ℕ) → node_in text ≡ Some n → 1 ≤ n
+node_some text n is = search (rules, node_least, is)
+
 node_few : (text : Text) (n : ℕ) → node_in text ≡ Some n → n ≤ 9999
 node_few text n is = search (rules, node_small, is)
 
@@ -75,18 +89,28 @@ if_some false t u is = some_same t u is
 record Begun (s : Start) : Type 0 where
   pub word : Text
   pub verb : verb_in word ≡ Some s.verb
+  pub some : 1 ≤ s.node
   pub few : s.node ≤ 9999
+  pub name : Text
+  pub named : hex_in 16 name ≡ Some s.name
 
-begun_with : (word cluster node : Text) (name : Option ℕ) (rest : List Text) (s : Start) → start_by (verb_in word) cluster (node_in node) name rest ≡ Some s → Begun s
-begun_with word cluster node name rest s = by (verb_in word) refl (node_in node) refl name
+begun_with : (word cluster node name : Text) (rest : List Text) (s : Start) → start_by (verb_in word) cluster (node_in node) (hex_in 16 name) rest ≡ Some s → Begun s
+begun_with word cluster node name rest s = by (verb_in word) refl (node_in node) refl (hex_in 16 name) refl
   where
-    by : (v : _) → verb_in word ≡ v → (n : Option ℕ) → node_in node ≡ n → (m : Option ℕ) → start_by v cluster n m rest ≡ Some s → Begun s
-    by None read n at m is = absurd cc
-    by (Some v) read None at m is = absurd cc
-    by (Some v) read (Some n) at None is = absurd cc
-    by (Some v) read (Some n) at (Some m) is =
+    by : (v : _) → verb_in word ≡ v → (n : Option ℕ) → node_in node ≡ n → (m : Option ℕ) → hex_in 16 name ≡ m → start_by v cluster n m rest ≡ Some s → Begun s
+    by None read n at m named is = absurd cc
+    by (Some v) read None at m named is = absurd cc
+    by (Some v) read (Some n) at None named is = absurd cc
+    by (Some v) read (Some n) at (Some m) named is =
         let same = if_some (length cluster == 0) _ s is in
-        record { word = word; verb = read ∙ ap (λ (x : Start). Some x.verb) same; few = subst (λ (k : ℕ). k ≤ 9999) (ap (λ (x : Start). x.node) same) (node_few node n at) }
+        record {
+          word = word;
+          verb = read ∙ ap (λ (x : Start). Some x.verb) same;
+          some = subst (λ (k : ℕ). 1 ≤ k) (ap (λ (x : Start). x.node) same) (node_some node n at);
+          few = subst (λ (k : ℕ). k ≤ 9999) (ap (λ (x : Start). x.node) same) (node_few node n at);
+          name = name;
+          named = named ∙ ap (λ (x : Start). Some x.name) same;
+        }
 
 -- what holds of what is made of a value that is there
 there : {T : Type 0} (P : T → Type 0) (o : Option (Text × List Text)) (next : Text → List Text → Option T) (t : T) → ((value : Text) (rest : List Text) → next value rest ≡ Some t → P t) → taken o next ≡ Some t → P t
@@ -99,7 +123,7 @@ begun words s =
     there Begun (value_in (codes "fence") words) _ s (λ verb after_verb.
     there Begun (value_in (codes "--cluster") after_verb) _ s (λ cluster after_cluster.
     there Begun (value_in (codes "--node") after_cluster) _ s (λ node after_node.
-    there Begun (value_in (codes "--name") after_node) _ s (λ name rest. begun_with verb cluster node _ rest s))))
+    there Begun (value_in (codes "--name") after_node) _ s (λ name rest. begun_with verb cluster node name rest s))))
 
 -- it is one of three
 abbrev IsSpelled : Start → Text → Type 0
@@ -121,8 +145,13 @@ record OffNodes (w : Wanted) (victim : Key) : Type 0 where
   pub plug : ℕ
   pub own : w.own ≡ key_of cluster node
   pub theirs : victim ≡ key_of cluster plug
+  pub some : 1 ≤ node
   pub few : node ≤ 9999
+  pub plug_some : 1 ≤ plug
   pub plugs : plug ≤ 9999
+  pub name : Text
+  pub named : hex_in 16 name ≡ Some w.nexus.name
+  pub port : w.nexus.port ≡ 1
   pub other : plug ≡ node → ⊥
 
 -- a command that does what a start says
@@ -157,8 +186,8 @@ status_other s w victim read is off = plugged (value_in (codes "--plug") s.rest)
     plugged None at = absurd (let never = rw (← some_same _ s.verb read, at) at is in cc)
     plugged (Some (plug, rest)) at = noded plug rest at (node_in plug) refl
 
-off_nodes : (s : Start) (w : Wanted) (victim : Key) → s.node ≤ 9999 → IsSpelled s (codes "off") → Does s w → w.errand ≡ errand.Off victim → OffNodes w victim
-off_nodes s w victim few read is off = plugged (value_in (codes "--plug") s.rest) refl
+off_nodes : (s : Start) (w : Wanted) (victim : Key) → Begun s → IsSpelled s (codes "off") → Does s w → w.errand ≡ errand.Off victim → OffNodes w victim
+off_nodes s w victim b read is off = plugged (value_in (codes "--plug") s.rest) refl
   where
     other : (plug : Text) (rest : List Text) → value_in (codes "--plug") s.rest ≡ Some (plug, rest) → (n : ℕ) → node_in plug ≡ Some n → (aptpl : Bool) (addresses : List Text) → end_in rest ≡ Some (aptpl, addresses)
         → (itself : Bool) → (n == s.node) ≡ itself → OffNodes w victim
@@ -173,8 +202,13 @@ off_nodes s w victim few read is off = plugged (value_in (codes "--plug") s.rest
           plug = n;
           own = sym (ap (λ (x : Wanted). x.own) same);
           theirs = sym theirs;
-          few = few;
+          some = b.some;
+          few = b.few;
+          plug_some = node_some plug n number;
           plugs = node_few plug n number;
+          name = b.name;
+          named = b.named ∙ ap (λ (x : Wanted). Some x.nexus.name) same;
+          port = sym (ap (λ (x : Wanted). x.nexus.port) same);
           other = λ one. false≢true (sym itself ∙ eq-eqb n s.node one);
         }
 
@@ -202,7 +236,7 @@ nodes words w victim off = by (start_in words) refl off.0
         elim (one_of_three b.word s b.verb) [
           | inl on ↦ absurd (on_other s w victim on is off.1)
           | inr more ↦ elim more [
-            | inl here ↦ off_nodes s w victim b.few here is off.1
+            | inl here ↦ off_nodes s w victim b here is off.1
             | inr status ↦ absurd (status_other s w victim status is off.1)
           ]
         ]
@@ -222,3 +256,28 @@ pub own_differs : (words : List Text) (w : Wanted) (victim : Key) → FenceOff w
 own_differs words w victim off is =
     let n = nodes words w victim off in
     n.other (sym (same_key n.cluster n.node n.plug (ap (λ (k : Key). k.0) (sym n.own) ∙ is ∙ ap (λ (k : Key). k.0) n.theirs)))
+
+-- neither key is zero
+read_some : (n : ℕ) → 1 ≤ n → read_as_hexadecimal n ≡ 0 → ⊥
+read_some n some none = absurd (omega (arith, by_digits n, some, none))
+
+key_some : (cluster : List ℕ) (node : ℕ) → 1 ≤ node → (key_of cluster node).0 ≡ 0 → ⊥
+key_some cluster node some none = read_some node some (omega (arith, none))
+
+pub own_some : (words : List Text) (w : Wanted) (victim : Key) → FenceOff words w victim → w.own.0 ≡ 0 → ⊥
+own_some words w victim off none =
+    let n = nodes words w victim off in
+    key_some n.cluster n.node n.some (ap (λ (k : Key). k.0) (sym n.own) ∙ none)
+
+pub victim_some : (words : List Text) (w : Wanted) (victim : Key) → FenceOff words w victim → victim.0 ≡ 0 → ⊥
+victim_some words w victim off none =
+    let n = nodes words w victim off in
+    key_some n.cluster n.plug n.plug_some (ap (λ (k : Key). k.0) (sym n.theirs) ∙ none)
+
+pub port_is_one : (words : List Text) (w : Wanted) (victim : Key) → FenceOff words w victim → w.nexus.port ≡ 1
+port_is_one words w victim off = (nodes words w victim off).port
+
+pub name_fits : (words : List Text) (w : Wanted) (victim : Key) → FenceOff words w victim → w.nexus.name < 2 ^ 64
+name_fits words w victim off =
+    let n = nodes words w victim off in
+    hex_small n.name w.nexus.name n.named

@@ -1,5 +1,5 @@
 -- Calls of an initiator to the device that answers them: what they show of its world.
-use Rattle.std.proofs.Common.{◌≡◌, lit<, lit≤, ◌+◌, ◌%◌, ℕ, zero, suc, ◌==◌, ◌≤◌, ◌<◌, ◌^◌, inl, inr, Bool, true, false, List, [], ◌∷◌, ◌++◌, length, take, Option, Some, None, refl, sym, ap, ◌∙◌, subst, append_assoc, arith}
+use Rattle.std.proofs.Common.{◌≡◌, lit≤, ℕ, zero, suc, ◌==◌, ◌≤◌, ◌<◌, ◌^◌, inl, inr, Bool, true, false, List, [], ◌++◌, length, Option, refl, sym, ap, ◌∙◌, subst, append_assoc, arith}
 use Rattle.std.specs.Prelude.{Result, Ok, Err, if◌then◌else◌}
 use Rattle.std.proofs.lemmas.Bool.{eqb-true}
 use Rattle.pr_words.specs.declared.code.Code.{Code}
@@ -23,7 +23,7 @@ use Rattle.pr_link.specs.declared.reply.Reply.{Reply}
 use Rattle.pr_initiator.specs.declared.answer.Answer.{Answer}
 use Rattle.pr_initiator.specs.declared.link_fault.LinkFault.{LinkFault}
 use Rattle.pr_initiator.specs.Calls.{answer_by}
-use Rattle.pr_initiator.specs.Commands.{HasAnswered, IsReady, Order, attention_in, order_bytes, plain_cdb, test_unit_ready}
+use Rattle.pr_initiator.specs.Commands.{HasAnswered, IsReady, Order, order_bytes, plain_cdb, test_unit_ready}
 use Rattle.pr_initiator.specs.Goings.{Goes}
 use Rattle.pr_initiator.specs.Judging.{judged}
 use Rattle.pr_initiator.specs.Links.{HasReplied, Link, data_in_by, next_tag}
@@ -35,7 +35,7 @@ use Rattle.pr_fence.specs.Exits.{checked_by, good_by, judged_by}
 use Rattle.pr_fence.specs.Steps.{Orders}
 use Rattle.pr_rig.specs.Laws.{answered_good}
 use Rattle.pr_rig.proofs.Hearing.{BeginsNothing, IsGood, good_answer}
-use Rattle.pr_rig.proofs.Turning.{Leads, command_leads}
+use Rattle.pr_rig.proofs.Turning.{Claim, Leads, command_leads}
 
 -- registrants are well formed, and stay so
 abbrev pub Formed : World → Type 0
@@ -51,18 +51,18 @@ pub record IsPlain (o : Order) : Type 0 where
   pub few : length (spelled_cdb (plain_cdb o.command)) ≤ 16
   pub fits : length o.list ≤ DATA
 
-order_spelled : (tag : ℕ) (o : Order) → order_bytes tag o ≡ spelled (frame 0x02 0 tag (command_head (spelled_cdb (plain_cdb o.command)) ++ o.list))
+pub order_spelled : (tag : ℕ) (o : Order) → order_bytes tag o ≡ spelled (frame 0x02 0 tag (command_head (spelled_cdb (plain_cdb o.command)) ++ o.list))
 unfolding order_bytes
 order_spelled tag o = refl
 
-small_tag : (tag : ℕ) → next_tag tag < 2 ^ 32
+pub small_tag : (tag : ℕ) → next_tag tag < 2 ^ 32
 small_tag tag = omega arith
 
 abbrev done : Result (Unit {0}) FenceFault
 done = Ok tt
 
 -- an answer whose status is GOOD
-good_status : (asked : Asked) (a : Answer) → good_by asked a ≡ Ok tt → a.status ≡ 0x00
+pub good_status : (asked : Asked) (a : Answer) → good_by asked a ≡ Ok tt → a.status ≡ 0x00
 good_status asked a is = by (a.status == 0x00) (a.status == 0x02) (a.status == 0x18) refl is
   where
     by : (b c d : Bool) → (a.status == 0x00) ≡ b
@@ -72,16 +72,31 @@ good_status asked a is = by (a.status == 0x00) (a.status == 0x02) (a.status == 0
     by false false true is_zero same = absurd cc
     by false false false is_zero same = absurd cc
 
-module _ (G : World → Type 0) (n : Nexus) where
+-- an answer, by the outcome of which it tells
+pub record Tells (old new : Link) (a : Answer) (s : Status) (sense : Option Sense) (bytes : List ℕ) : Type 0 where
+  pub said : Result Reply SenseFault
+  pub proper : IsProperReply s sense bytes
+  pub judges : judged 0x82 old.tag old.place (frame 0x82 0 old.tag (command_reply s sense bytes)) ≡ Ok said
+  pub says : answer_by old.place said ≡ Ok a
+  pub received : new.received ≡ data_in_by said (command_reply s sense bytes)
+
+-- one whose status is GOOD brings the data of the outcome GOOD
+pub good_told : (old new : Link) (a : Answer) (s : Status) (sense : Option Sense) (bytes : List ℕ) → Tells old new a s sense bytes → a.status ≡ 0x00 → IsGood s sense bytes new.received
+good_told old new a s sense bytes t ok =
+    let g : IsGood s sense bytes (data_in_by t.said (command_reply s sense bytes)) = good_answer s sense bytes old.tag old.place t.said a t.proper t.judges t.says ok in
+    record { out = g.out; same = t.received ∙ g.same }
+
+module _ (C : Claim) (n : Nexus) where
   -- the initiator's bytes and what it heard lead a device that had it logged in from worlds of one kind to those of another
   pub record Passes (P Q : World → Type 0) (a b : Link) : Type 0 where
     pub sent : List ℕ
     pub heard : List ℕ
     pub goes : Goes a.talk b.talk sent heard
     pub tag : b.tag < 2 ^ 32
+    pub later : a.faults ≤ b.faults
     pub leads :
-        (w : World) (place : ℕ) (rest others : List ℕ) → P w → ((v : World) (there : ℕ) → Q v → Leads G v (lane rest (In n) there) others)
-        → Leads G w (lane (sent ++ rest) (In n) place) (heard ++ others)
+        (w : World) (place : ℕ) (rest others : List ℕ) → P w → ((v : World) (there : ℕ) → Q v → Leads C v (lane rest (In n) there) others)
+        → Leads C w (lane (sent ++ rest) (In n) place) (heard ++ others)
 
   pub joined : (P Q R : World → Type 0) (a b c : Link) → Passes P Q a b → Passes Q R b c → Passes P R a c
   joined P Q R a b c p q =
@@ -90,9 +105,10 @@ module _ (G : World → Type 0) (n : Nexus) where
         heard = p.heard ++ q.heard;
         goes = more a.talk b.talk c.talk p.sent q.sent p.heard q.heard p.goes q.goes;
         tag = q.tag;
+        later = omega (arith, p.later, q.later);
         leads = λ w place rest others holds on.
-            subst (λ (x : List ℕ). Leads G w (lane x (In n) place) ((p.heard ++ q.heard) ++ others)) (sym (append_assoc p.sent q.sent rest))
-            (subst (λ (x : List ℕ). Leads G w (lane (p.sent ++ (q.sent ++ rest)) (In n) place) x) (sym (append_assoc p.heard q.heard others))
+            subst (λ (x : List ℕ). Leads C w (lane x (In n) place) ((p.heard ++ q.heard) ++ others)) (sym (append_assoc p.sent q.sent rest))
+            (subst (λ (x : List ℕ). Leads C w (lane (p.sent ++ (q.sent ++ rest)) (In n) place) x) (sym (append_assoc p.heard q.heard others))
             (p.leads w place (q.sent ++ rest) (q.heard ++ others) holds (λ v there between. q.leads v there rest others between on)));
       }
 
@@ -104,12 +120,13 @@ module _ (G : World → Type 0) (n : Nexus) where
         heard = [];
         goes = subst (λ (x : Link). Goes a.talk x.talk [] []) (sym same) (stays a.talk);
         tag = subst (λ (x : Link). x.tag < 2 ^ 32) (sym same) small;
+        later = subst (λ (x : Link). a.faults ≤ x.faults) (sym same) (omega arith);
         leads = λ w place rest others holds on. on w place (so w holds);
       }
 
   -- a command was answered
   pub answered : (P Q : World → Type 0) (o : Order) (old new : Link) (a : Answer) → IsPlain o → old.tag < 2 ^ 32 → HasAnswered old new o (Ok a)
-      → ((w : World) (s : Status) (sense : Option Sense) (bytes : List ℕ) → P w → MayFollow w (entry 0 n (Command 0 (spelled_cdb (plain_cdb o.command)) o.list) (Ended s sense bytes)) → (a.status ≡ 0x00 → IsGood s sense bytes new.received)
+      → ((w : World) (s : Status) (sense : Option Sense) (bytes : List ℕ) → P w → C.Follows w (entry 0 n (Command 0 (spelled_cdb (plain_cdb o.command)) o.list) (Ended s sense bytes)) → Tells old new a s sense bytes
       → Q (moved w (entry 0 n (Command 0 (spelled_cdb (plain_cdb o.command)) o.list) (Ended s sense bytes)))) → Passes P Q old new
   answered P Q o old new a plain small called each =
       record {
@@ -117,9 +134,10 @@ module _ (G : World → Type 0) (n : Nexus) where
         heard = heard.heard;
         goes = subst (λ (x : List ℕ). Goes old.talk new.talk x heard.heard) (order_spelled old.tag o) heard.goes;
         tag = subst (λ (x : ℕ). x < 2 ^ 32) (sym called.tag) (small_tag old.tag);
+        later = called.later;
         leads = λ w place rest others holds on.
-            command_leads G w n place old.tag cdb o.list rest heard.heard others heard.frame plain.some plain.few plain.fits small plain.nothing heard.whole
-            (λ s sense bytes proper is may there. on _ there (each w s sense bytes holds may (λ ok. told s sense bytes proper is ok)));
+            command_leads C w n place old.tag cdb o.list rest heard.heard others heard.frame plain.some plain.few plain.fits small plain.nothing heard.whole
+            (λ s sense bytes proper is may there. on _ there (each w s sense bytes holds may (told s sense bytes proper is)));
       }
     where
       cdb : List ℕ
@@ -131,29 +149,33 @@ module _ (G : World → Type 0) (n : Nexus) where
       heard : HasReplied 0x82 old new (order_bytes old.tag o) said
       heard = called.yields.1
 
-      told : (s : Status) (sense : Option Sense) (bytes : List ℕ) → IsProperReply s sense bytes → heard.frame ≡ frame 0x82 0 old.tag (command_reply s sense bytes) → a.status ≡ 0x00 → IsGood s sense bytes new.received
-      told s sense bytes proper is ok =
-          let judges : judged 0x82 old.tag old.place (frame 0x82 0 old.tag (command_reply s sense bytes)) ≡ Ok said = subst (λ (f : Frame). judged 0x82 old.tag old.place f ≡ Ok said) is heard.judged in
-          let g : IsGood s sense bytes (data_in_by said (command_reply s sense bytes)) = good_answer s sense bytes old.tag old.place said a proper judges called.yields.2 ok in
-          record { out = g.out; same = heard.received ∙ ap (λ (f : Frame). data_in_by said f.body) is ∙ g.same }
+      told : (s : Status) (sense : Option Sense) (bytes : List ℕ) → IsProperReply s sense bytes → heard.frame ≡ frame 0x82 0 old.tag (command_reply s sense bytes) → Tells old new a s sense bytes
+      told s sense bytes proper is =
+          record {
+            said = said;
+            proper = proper;
+            judges = subst (λ (f : Frame). judged 0x82 old.tag old.place f ≡ Ok said) is heard.judged;
+            says = called.yields.2;
+            received = heard.received ∙ ap (λ (f : Frame). data_in_by said f.body) is;
+          }
 
   -- a command was answered GOOD, with these data
   pub ordered : (P Q : World → Type 0) (asked : Asked) (o : Order) (old new : Link) → IsPlain o → old.tag < 2 ^ 32 → Orders asked o old new (Ok tt)
-      → ((w : World) → P w → MayFollow w (answered_good 0 n o o.list new.received) → Q (moved w (answered_good 0 n o o.list new.received))) → Passes P Q old new
+      → ((w : World) → P w → C.Follows w (answered_good 0 n o o.list new.received) → Q (moved w (answered_good 0 n o o.list new.received))) → Passes P Q old new
   ordered P Q asked o old new plain small (Ok a, called, is) each =
       answered P Q o old new a plain small called
       (λ w s sense bytes holds may told.
-      let g : IsGood s sense bytes new.received = told (good_status asked a (sym is)) in
+      let g : IsGood s sense bytes new.received = good_told old new a s sense bytes told (good_status asked a (sym is)) in
       let out : Ended s sense bytes ≡ good new.received = g.out ∙ ap good (sym g.same) in
-      subst (λ (x : Out). MayFollow w (entry 0 n (Command 0 (spelled_cdb (plain_cdb o.command)) o.list) x) → Q (moved w (entry 0 n (Command 0 (spelled_cdb (plain_cdb o.command)) o.list) x))) (sym out) (each w holds) may)
+      subst (λ (x : Out). C.Follows w (entry 0 n (Command 0 (spelled_cdb (plain_cdb o.command)) o.list) x) → Q (moved w (entry 0 n (Command 0 (spelled_cdb (plain_cdb o.command)) o.list) x))) (sym out) (each w holds) may)
   ordered P Q asked o old new plain small (Err e, called, is) each = absurd cc
 
-  ready_plain : IsPlain test_unit_ready
+  pub ready_plain : IsPlain test_unit_ready
   ready_plain = record { nothing = λ w m lun sent. record { status = _; sense = _; bytes = []; is = refl; proper = lit≤ tt }; some = lit≤ tt; few = lit≤ tt; fits = lit≤ tt }
 
   asks_ready : (old new : Link) (a : Answer) → old.tag < 2 ^ 32 → HasAnswered old new test_unit_ready (Ok a) → Passes Formed Formed old new
-  asks_ready old new a small called = answered Formed Formed test_unit_ready old new a ready_plain small called 
-      (λ w s sense bytes formed may told. formed_on w (entry 0 n (Command 0 (spelled_cdb (plain_cdb test_unit_ready.command)) test_unit_ready.list) (Ended s sense bytes)) may formed)
+  asks_ready old new a small called = answered Formed Formed test_unit_ready old new a ready_plain small called
+      (λ w s sense bytes formed may told. formed_on w (entry 0 n (Command 0 (spelled_cdb (plain_cdb test_unit_ready.command)) test_unit_ready.list) (Ended s sense bytes)) (C.may w (entry 0 n (Command 0 (spelled_cdb (plain_cdb test_unit_ready.command)) test_unit_ready.list) (Ended s sense bytes)) may) formed)
 
   -- a target that is ready in the end
   pub readied : (left : ℕ) (last : Code) (asked : Asked) (old new : Link) (r : Result Answer LinkFault) → old.tag < 2 ^ 32 → IsReady left last old new r → Ok tt ≡ judged_by asked r → Passes Formed Formed old new

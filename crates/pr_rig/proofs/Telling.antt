@@ -1,24 +1,23 @@
 -- A whole run of off, connection by connection: each is one whose device has lost the victim's key.
-use Rattle.std.proofs.Common.{◌≡◌, ℕ, ◌<◌, ◌^◌, List, [], ◌∷◌, ◌++◌, length, map, Option, Some, None, refl, sym, ap, ◌∙◌, subst, append_assoc, arith}
+use Rattle.std.proofs.Common.{◌≡◌, ℕ, ◌<◌, ◌^◌, List, [], ◌∷◌, ◌++◌, map, Option, Some, None, refl, sym, ap, ◌∙◌, subst, append_assoc}
 use Rattle.std.specs.List.{AllByRecursion}
 use Rattle.std.proofs.lemmas.List.{append-nil}
 use Rattle.pr_words.specs.declared.nexus.Key.{Key}
-use Rattle.pr_words.specs.declared.nexus.Nexus.{Nexus}
 use Rattle.pr_model.specs.Sessions.{connection}
 use Rattle.pr_model.specs.Worlds.{World}
 use Rattle.pr_io.specs.Talks as talks
 use Rattle.pr_io.specs.Talks.{Begins, Connection, Talk, connections, dialled}
 use Rattle.pr_initiator.specs.Goings.{CurrentGoes, Goes}
 use Rattle.pr_initiator.specs.Links.{Link}
-use Rattle.pr_fence.specs.Ousting.{HasOusted, HaveOusted}
+use Rattle.pr_fence.specs.Ousting.{HaveOusted}
 use Rattle.pr_fence.specs.Words.{Wanted}
-use Rattle.pr_rig.proofs.Ousting.{Converses, Ousted, conversed}
+use Rattle.pr_rig.proofs.Ousting.{Converses, Ousts, conversed}
 use Rattle.pr_rig.proofs.Passing.{Formed}
 use Rattle.pr_rig.proofs.Turning.{Leads}
 
 -- whatever device answered a connection like this is one from which the victim's key is gone
 abbrev pub Convinces : Key → Connection → Type 0
-Convinces victim c = (w : World) (lost : List ℕ) → Formed w → Leads (Ousted victim) w (connection c.sent) (c.received ++ lost)
+Convinces victim c = (w : World) (lost : List ℕ) → Formed w → Leads (Ousts victim) w (connection c.sent) (c.received ++ lost)
 
 -- one connection more
 pub record OneMore (victim : Key) (address : List ℕ) (t : Talk) (now : Option Talk) : Type 0 where
@@ -30,7 +29,7 @@ pub record OneMore (victim : Key) (address : List ℕ) (t : Talk) (now : Option 
   pub convinces : Convinces victim last
 
 current_more : (victim : Key) (address : List ℕ) (t u : Talk) (d : Option Connection) (sent heard : List ℕ) → u.current ≡ d → u.earlier ≡ connections t → CurrentGoes (Some (talks.connection address)) d sent heard
-    → ((w : World) (lost : List ℕ) → Formed w → Leads (Ousted victim) w (connection sent) (heard ++ lost)) → OneMore victim address t (Some u)
+    → ((w : World) (lost : List ℕ) → Formed w → Leads (Ousts victim) w (connection sent) (heard ++ lost)) → OneMore victim address t (Some u)
 current_more victim address t u None sent heard is before goes leads = absurd goes
 current_more victim address t u (Some d) sent heard is before goes leads =
     record {
@@ -40,12 +39,12 @@ current_more victim address t u (Some d) sent heard is before goes leads =
       all = ap (λ (c : Option Connection). talks.one_more u.earlier c) is ∙ ap (λ (cs : List Connection). cs ++ d ∷ []) before;
       named = goes.0;
       convinces = λ w lost formed.
-          subst (λ (x : List ℕ). Leads (Ousted victim) w (connection x) (d.received ++ lost)) (sym goes.1)
-          (subst (λ (x : List ℕ). Leads (Ousted victim) w (connection sent) (x ++ lost)) (sym goes.2) (leads w lost formed));
+          subst (λ (x : List ℕ). Leads (Ousts victim) w (connection x) (d.received ++ lost)) (sym goes.1)
+          (subst (λ (x : List ℕ). Leads (Ousts victim) w (connection sent) (x ++ lost)) (sym goes.2) (leads w lost formed));
     }
 
 talk_more : (victim : Key) (address : List ℕ) (t : Talk) (old mid now : Option Talk) (sent heard : List ℕ) → old ≡ Some t → Begins old mid address → Goes mid now sent heard
-    → ((w : World) (lost : List ℕ) → Formed w → Leads (Ousted victim) w (connection sent) (heard ++ lost)) → OneMore victim address t now
+    → ((w : World) (lost : List ℕ) → Formed w → Leads (Ousts victim) w (connection sent) (heard ++ lost)) → OneMore victim address t now
 talk_more victim address t None mid now sent heard is begins goes leads = absurd cc
 talk_more victim address t (Some o) None now sent heard is begins goes leads = absurd begins
 talk_more victim address t (Some o) (Some m) None sent heard is begins goes leads = absurd goes

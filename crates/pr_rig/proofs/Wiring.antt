@@ -1,12 +1,12 @@
 -- A wire in memory: its connections, and the devices to which they lead.
-use Rattle.std.proofs.Common.{◌≡◌, ℕ, zero, suc, ◌==◌, Bool, true, false, List, [], ◌∷◌, ◌++◌, length, map, Option, Some, None, refl, sym, ap, ◌∙◌, subst}
+use Rattle.std.proofs.Common.{◌≡◌, ℕ, zero, suc, List, [], ◌∷◌, ◌++◌, map, Option, Some, None, refl, sym, ap, ◌∙◌, subst}
 use Rattle.std.specs.Prelude.{slice_get}
 use Rattle.std.specs.List.{AllByRecursion}
 use Rattle.std.specs.String.{string_bytes}
 use Rattle.std.specs.declared.string.String.{String}
 use Rattle.std.proofs.lemmas.List.{append-nil, map-append}
 use Rattle.pr_io.specs.declared.recorded.Recorded.{Recorded}
-use Rattle.pr_io.specs.Devices.{AllStand, DeviceStands}
+use Rattle.pr_io.specs.Devices.{AllStand}
 use Rattle.pr_io.specs.Lines.{Line}
 use Rattle.pr_io.specs.Recordings.{AreNamed, address_at, addresses_of, own_address, standing, talk_of, told_of}
 use Rattle.pr_io.specs.Talks.{Connection, connections}
@@ -27,19 +27,21 @@ named_at addresses [] r behind named = cc
 named_at addresses (b ∷ before) r behind named = named_at addresses before r behind cc
 
 -- where a list is spelled as two, it is two
-pub record Split (rs : List Recorded) (ds : List Connection) : Type 0 where
+pub record Split (rs : List Recorded) (cs ds : List Connection) : Type 0 where
   pub before : List Recorded
   pub behind : List Recorded
   pub all : rs ≡ before ++ behind
+  pub first : map told_of before ≡ cs
   pub told : map told_of behind ≡ ds
 
-pub split : (rs : List Recorded) (cs ds : List Connection) → map told_of rs ≡ cs ++ ds → Split rs ds
-split rs [] ds is = record { before = []; behind = rs; all = refl; told = is }
+pub split : (rs : List Recorded) (cs ds : List Connection) → map told_of rs ≡ cs ++ ds → Split rs cs ds
+split rs [] ds is = record { before = []; behind = rs; all = refl; first = refl; told = is }
 split [] (c ∷ cs) ds is = absurd cc
 split (r ∷ rs) (c ∷ cs) ds is =
-    let rest : Split rs ds = split rs cs ds (cc) in
+    let head : told_of r ≡ c = cc in
+    let rest : Split rs cs ds = split rs cs ds (cc) in
     let all : r ∷ rs ≡ r ∷ (rest.before ++ rest.behind) = ap (λ (l : List Recorded). r ∷ l) rest.all in
-    record { before = r ∷ rest.before; behind = rest.behind; all = all; told = rest.told }
+    record { before = r ∷ rest.before; behind = rest.behind; all = all; first = ap (λ (d : Connection). d ∷ map told_of rest.before) head ∙ ap (λ (l : List Connection). c ∷ l) rest.first; told = rest.told }
 
 -- a property of what is told of each
 pub each_told : (Q : Connection → Type 0) (rs : List Recorded) (ds : List Connection) → map told_of rs ≡ ds → AllByRecursion Q ds → AllByRecursion (λ (r : Recorded). Q (told_of r)) rs

@@ -1,10 +1,11 @@
-ghost use Rattle.std.specs.Prelude.{◌≡◌};
+ghost use Rattle.std.specs.Prelude.{◌≡◌, ◌⊎◌};
 ghost use Rattle.pr_fence.specs.Ousting.{OustsAll};
 ghost use Rattle.pr_fence.specs.Views.{texts_of};
 ghost use Rattle.pr_fence.specs.Whole.{Ends, told_wire};
 ghost use Rattle.pr_fence.specs.Words.{Wanted, FenceItself, FenceOff, MakeNoCommand, wanted_by};
+ghost use Rattle.pr_io.specs.Causes.{Rose};
 ghost use Rattle.pr_io.specs.Told.{told_sink};
-ghost use Rattle.pr_rig.specs.Rig.{AllHaveMade, AreFencedAt};
+ghost use Rattle.pr_rig.specs.Rig.{AllHaveMade, AreFencedAt, AreOpen, IsReady, NoDiskFails};
 ghost use Rattle.pr_words.specs.declared.nexus.Key.{Key};
 
 use pr_fence::{FenceExit, fence_main};
@@ -34,6 +35,13 @@ pub fn fence_rig<M: Medium + Drop, D: Disk + Drop, K: Sink>(
     ensures made { AllHaveMade wire.old → AllHaveMade wire.new }
     ensures fenced { (w : Wanted) (victim : Key) → FenceOff (texts_of words.now) w victim →
         result ≡ FenceExit.Done → AllHaveMade wire.old → AreFencedAt wire.new victim w.addresses }
+    ensures completes { (w : Wanted) (victim : Key) → FenceOff (texts_of words.now) w victim →
+        AllHaveMade wire.old → IsReady wire.old → AreOpen wire.old w.nexus victim →
+        NoDiskFails wire.old.devices.items wire.new.devices.items →
+        (Rose (⟦<MemWire<LanePeer<M, D>> as Wire>⟧.faults wire.old)
+        (⟦<MemWire<LanePeer<M, D>> as Wire>⟧.faults wire.new) → ⊥) →
+        (Rose (K.faults sink.old) (K.faults sink.new) → ⊥) →
+        (result ≡ FenceExit.Done) ⊎ (result ≡ FenceExit.NoMemory) }
 {
     fence_main(alloc, words, wire, sink)
 }
