@@ -394,6 +394,42 @@ fn each_missing_reply_ends_the_run(rt: HostRuntime) -> Result<(), Fail> {
     Ok(())
 }
 
+/// The bytes of a whole removal's replies, of which the one behind these has a kind that no target
+/// sends, and its place.
+fn script_with_odd_kind(alloc: Global, before: &[Reply]) -> Result<(Vec<u8>, usize), AllocError> {
+    let mut script = script_of(alloc, &WHOLE)?;
+    let place = script_of(alloc, before)?.len();
+    if let Some(kind) = script.get_mut(place.saturating_add(4)) {
+        *kind = 0x80;
+    }
+    Ok((script, place))
+}
+
+// Each reply's frame broken in turn ends the run there.
+#[test]
+fn each_odd_frame_ends_the_run(rt: HostRuntime) -> Result<(), Fail> {
+    let alloc = rt.alloc();
+    for broken in 0..9 {
+        let (script, place) = script_with_odd_kind(alloc, &WHOLE[..broken])?;
+        let mut devices = Vec::new(alloc);
+        devices.push((String::from_str(alloc, "x")?, ScriptPeer::new(script, 7)))?;
+        let mut wire = MemWire::new(alloc, devices, Vec::new(alloc));
+        let mut sink = MemSink::new(alloc, Vec::new(alloc));
+        let exit = fence_main(alloc, &OFF, &mut wire, &mut sink);
+        let wanted = FenceExit::Link {
+            device: 0,
+            asked: ASKED[broken],
+            fault: LinkFault::BadReply {
+                place: place as u64,
+                reason: 2,
+            },
+        };
+        assert!(rt; exit == wanted);
+        assert!(rt; sink.bytes().is_empty());
+    }
+    Ok(())
+}
+
 const NEXUS: Nexus = Nexus {
     name: 0x11,
     port: 1,
